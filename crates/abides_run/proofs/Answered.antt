@@ -114,25 +114,22 @@ early_write : (st : Status) → IsEarly st → ¬ (st ≡ status.WriteFault)
 early_write st (inl e) w = let other : status.Usage ≡ status.WriteFault = sym e ∙ w in cc
 early_write st (inr e) w = subst IsSought w e
 
-early_ok : (st : Status) → IsEarly st → ¬ (st ≡ status.Ok)
-early_ok st (inl e) w = let other : status.Usage ≡ status.Ok = sym e ∙ w in cc
-early_ok st (inr e) w = subst IsSought w e
-
 -- the search ended without a study
 pub ended_early : (files : Option Files) (words : List (List ℕ)) (probes : Probes) (name : List ℕ) (old new writes steps : ℕ) (taken : Option (List ℕ)) (st : Status)
     → IsEarly st → IfSome files (λ library. Ends (verdict library words) (fetched library words) st name)
     → (st ≡ status.Usage → asked_of words ≡ None) → (asked_of words ≡ None → (st ≡ status.Usage) ⊎ (st ≡ status.Memory))
-    → (st ≡ status.Usage → new ≡ old) → (IsLarge (asked_of words) → new ≡ old) → (st ≡ status.ReadFault → Rose old new) → old ≤ new
+    → (¬ (st ≡ status.ReadFault) → new ≡ old) → (IsLarge (asked_of words) → new ≡ old) → (st ≡ status.ReadFault → Rose old new) → old ≤ new
     → Answered files words probes (record { reads = old; writes = writes; taken = taken; steps = steps }) (record { reads = new; writes = writes; taken = taken; steps = steps }) st
-ended_early files words probes name old new writes steps taken st early ends faulty not_asked still unread fault rises = record {
+ended_early files words probes name old new writes steps taken st early ends faulty not_asked stands unread fault rises = record {
   told = early_told files words probes name old new writes steps taken st early ends fault;
   usage = faulty;
   not_asked = not_asked;
-  unasked = still;
+  unasked = λ e. stands (λ fault. let other : status.Usage ≡ status.ReadFault = sym e ∙ fault in cc);
   unread = unread;
   read_fault = fault;
   write_fault = λ e. absurd (early_write st early e);
-  steady = λ e. absurd (early_ok st early e);
+  no_read_fault = λ other wants. stands other;
+  no_write_fault = λ other wants. refl;
   refused = λ r. refl;
   unmoved = λ r. refl;
   out_still = λ r. refl;
@@ -165,7 +162,8 @@ finished_answers files words probes arguments come before after st name is asked
   unread = λ l. reads;
   read_fault = λ e. absurd (final_read st f.final e);
   write_fault = f.fault;
-  steady = λ e. (reads, f.steady e);
+  no_read_fault = λ other wants. reads;
+  no_write_fault = λ other wants. f.steady other;
   refused = f.refused;
   unmoved = f.unmoved;
   out_still = f.out_still;
@@ -229,7 +227,8 @@ turned files words probes before after st other a = record {
   unread = a.unread;
   read_fault = λ e. cc;
   write_fault = λ e. cc;
-  steady = λ e. cc;
+  no_read_fault = λ other wants. absurd (wants refl);
+  no_write_fault = λ other wants. absurd (wants refl);
   refused = λ r. absurd r;
   unmoved = λ r. absurd r;
   out_still = λ r. absurd r;

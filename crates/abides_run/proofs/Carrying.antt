@@ -1,5 +1,5 @@
 -- How a session ends.
-use Rattle.std.proofs.Common.{◌≡◌, ◌⊎◌, ◌<◌, ◌≤◌, ◌+◌, ◌*◌, ℕ, zero, suc, nat_lt, Bool, true, false, ◌&&◌, not, if◌then◌else◌, List, [], ◌∷◌, Option, None, Some, Result, Ok, Err, length, refl, sym, ap, ◌∙◌, subst, inl, inr, arith}
+use Rattle.std.proofs.Common.{◌≡◌, ◌⊎◌, ◌<◌, ◌≤◌, ◌+◌, ◌-◌, ◌*◌, ℕ, zero, suc, nat_lt, Bool, true, false, ◌&&◌, not, if◌then◌else◌, List, [], ◌∷◌, Option, None, Some, Result, Ok, Err, length, refl, sym, ap, ◌∙◌, subst, inl, inr, arith}
 use Rattle.toml.specs.Data.{Members}
 use Rattle.kernel_copy.specs.Courses.{CourseTold}
 use Rattle.study_file.specs.Tables.{table_of}
@@ -14,13 +14,13 @@ use Rattle.session_desk.specs.declared.end.SessionEnd.{SessionEnd}
 use Rattle.session_desk.specs.declared.end.SessionEnd.TheVariants as end
 use Rattle.session_desk.specs.Acting.{after_act}
 use Rattle.session_desk.specs.Answered.{session_bytes}
-use Rattle.session_desk.specs.Counted.{all_reached, all_run, surely_kept}
+use Rattle.session_desk.specs.Counted.{all_run}
 use Rattle.session_desk.specs.Past.{past_act, past_from, past_last, past_or}
 use Rattle.session_desk.specs.Refused.{act_refused}
 use Rattle.study_rules.specs.Accepted.{StudyTold}
 use Rattle.abides_run.specs.Fetched.{IsAmong}
 use Rattle.abides_run.specs.Notes.{past_event}
-use Rattle.abides_run.specs.Output.{Probes, carried_out, study_events}
+use Rattle.abides_run.specs.Output.{Probes, carried_out, least_reached, most_reached, study_events}
 use Rattle.abides_run.specs.Sessions.{act_word, act_words, act_words_before, status_for}
 use Rattle.abides_run.specs.Verdict.{Verdict, accepted, bad_script, refused_act, ceiling, verdict_on_acts, verdict_on_past_act, verdict_on_script, verdict_on_session}
 use Rattle.abides_run.specs.Headline.{Seen}
@@ -161,8 +161,8 @@ acts-eventless acts places s past probes reads writes old new taken st name is f
 -- none does, and the answers were written, or why not
 pub acts-answered : (acts : List Act) (places : ℕ) (s : StudyTold) (probes : Probes) (arguments : List (List ℕ)) (before after : Seen) (st told : Status) (name : List ℕ)
     → past_act (first_session s.course) acts ≡ None → told ≡ st
-    → Performed (session_bytes probes.meanings (first_session s.course) acts) (study_events s.course + all_run (first_session s.course) acts)
-    (all_reached (surely_kept s.course s.stride places) (first_session s.course) acts) (study_events s.course + length acts * s.course.opening.limit) before after st
+    → Performed (session_bytes probes.meanings (first_session s.course) acts) (study_events s.course + all_run (first_session s.course) acts + least_reached s places acts)
+    (most_reached s places acts - least_reached s places acts) (study_events s.course + length acts * s.course.opening.limit) before after st
     → Finished (verdict_on_past_act acts places s (past_act (first_session s.course) acts)) probes arguments before after told name
 acts-answered acts places s probes arguments before after st told name none same p =
     let due = carried_out acts places s in

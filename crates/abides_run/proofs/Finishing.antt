@@ -42,7 +42,7 @@ wants come probes arguments reads writes old new taken name least most = record 
   named = λ fetched. tt;
   argument = tt;
   fault = λ e. cc;
-  steady = λ e. cc;
+  steady = λ e. refl;
   refused = λ r. absurd r;
   unmoved = λ r. absurd r;
   out_still = λ r. absurd r;
@@ -154,7 +154,7 @@ lacks-event word last s past probes arguments reads writes old new taken least m
   named = λ fetched. record { word = word; last = last; study = s; past = past; is = refl; said = refl };
   argument = record { word = word; last = last; among = among; said = refl };
   fault = λ e. cc;
-  steady = λ e. cc;
+  steady = λ e. refl;
   refused = λ r. refl;
   unmoved = λ r. absurd r;
   out_still = λ r. refl;

@@ -68,7 +68,7 @@ sent_some bytes events more most reads writes now old new before after st least 
   counter = unsent_counts events more most old new before after st s.unsent least within;
   cut = s.cut;
   fault = s.fault;
-  steady = λ e. absurd (unsent_other st s.unsent e);
+  steady = s.wanting;
   never_falls = s.never_falls;
 }
 
@@ -99,7 +99,7 @@ wanting bytes events more most reads writes old new taken least within = record 
   counter = (least, within, λ n. absurd (n refl));
   cut = nothing_taken taken bytes;
   fault = λ e. cc;
-  steady = λ e. cc;
+  steady = λ e. refl;
   never_falls = omega arith;
 }
 

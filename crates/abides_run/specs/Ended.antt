@@ -14,14 +14,14 @@ pub record Sunk : Type 0 where
   pub taken : Option (List ℕ)
 
 -- What holds at the end with a status: the notes got its line, for a name; at a refusal out took nothing, and no write to it
--- failed; a failed write is told only where one failed, and none failed at status 0.
+-- failed; a failed write is told only where one failed, and at any other status but want of memory none failed.
 pub record Ended (status : Status) (out_before out_after notes_before notes_after : Sunk) : Type 0 where
   pub name : List ℕ
   pub noted : Noted name notes_before.faults notes_after.faults notes_before.taken notes_after.taken status
   pub refused : IsRefusal status → out_after.taken ≡ out_before.taken
   pub still : IsRefusal status → out_after.faults ≡ out_before.faults
   pub write_fault : status ≡ WriteFault → Rose out_before.faults out_after.faults
-  pub steady : status ≡ Ok → out_after.faults ≡ out_before.faults
+  pub steady : ¬ (status ≡ WriteFault) → ¬ (status ≡ Memory) → out_after.faults ≡ out_before.faults
 
 -- The same of an exit status, which is the number of a status.
 pub record EndedAs (exit : ℕ) (out_before out_after notes_before notes_after : Sunk) : Type 0 where

@@ -31,7 +31,8 @@ pub record Fulfilled (come : Verdict) (bytes : List ℕ) (events more most : ℕ
   pub output : status ≡ Ok → after.taken ≡ appended before.taken bytes
   -- How many steps were counted: for a run each event of the study's segments once, and no more. For a rewind they are as many
   -- at least, and at most those besides that lead to its targets from the states that are sure to be kept. For a session they are
-  -- those of each full run that its acts tell values of besides, and at most those that lead to its answers from such states.
+  -- besides those of each full run that its acts tell values of, and those that lead to its answers from kept states: at least from
+  -- the nearest that may be kept, and at most from the nearest that are sure to be.
   pub counter : Counts events more most before.steps after.steps before.taken after.taken status
   -- Each status has its cause, and where nothing is due and with no fault each cause its status.
   pub cause : Cause come status
@@ -51,10 +52,12 @@ pub record Answered (files : Option Files) (words : List (List ℕ)) (probes : P
   pub unasked : status ≡ Usage → after.reads ≡ before.reads
   -- For a large study the library is not asked either.
   pub unread : IsLarge (asked_of words) → after.reads ≡ before.reads
-  -- A fault is told only where one was counted, and none is counted at status 0.
+  -- A fault is told only where one was counted, and one that was counted is told, where there is memory for its line: at any other
+  -- status but want of memory its count stands.
   pub read_fault : status ≡ ReadFault → Rose before.reads after.reads
   pub write_fault : status ≡ WriteFault → Rose before.writes after.writes
-  pub steady : status ≡ Ok → (after.reads ≡ before.reads) × (after.writes ≡ before.writes)
+  pub no_read_fault : ¬ (status ≡ ReadFault) → ¬ (status ≡ Memory) → after.reads ≡ before.reads
+  pub no_write_fault : ¬ (status ≡ WriteFault) → ¬ (status ≡ Memory) → after.writes ≡ before.writes
   -- At a refusal nothing is taken and out's count stands; and the counter, but where an event isn't there.
   pub refused : IsRefusal status → after.taken ≡ before.taken
   pub unmoved : IsStill status → after.steps ≡ before.steps

@@ -1,5 +1,6 @@
 pub mod Words
 pub mod Rewinds
+pub mod Placed
 pub mod Output
 pub mod Verdict
 pub mod Fetched

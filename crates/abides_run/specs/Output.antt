@@ -1,5 +1,5 @@
 -- What is written for an accepted study or a bundle that passes an audit, and how many events are simulated for it.
-use Rattle.std.specs.Prelude.{ℕ, ◌+◌, ◌*◌, List, [], ◌∷◌, ◌++◌, length, codes}
+use Rattle.std.specs.Prelude.{ℕ, ◌+◌, ◌-◌, ◌*◌, List, [], ◌∷◌, ◌++◌, length, codes}
 use Rattle.std.specs.Fmt.{decimal}
 use Rattle.branch_tree.specs.Segments.{segments_in}
 use Rattle.kernel_copy.specs.Segmentwise as segmentwise
@@ -19,6 +19,7 @@ use Rattle.session_desk.specs.declared.act.Act.{Act}
 use Rattle.session_desk.specs.Session.{first_session}
 use Rattle.session_desk.specs.Answered.{session_bytes}
 use Rattle.session_desk.specs.Counted.{all_reached, all_run, surely_kept}
+use Rattle.abides_run.specs.Placed.{possibly_kept}
 use Rattle.abides_run.specs.Rewinds.{rewinds_of, steps_to, steps_to_all, target_state}
 
 -- the bundle of a study: the trace of each branch
@@ -78,7 +79,17 @@ written probes (crossed target stock orders places s) = reopened (target_state s
 written probes (audited b) = audit_line b
 written probes (carried_out acts places s) = session_bytes probes.meanings (first_session s.course) acts
 
--- A check and an audit simulate nothing. In a session each act that tells values runs its branch from the opening.
+-- the steps from kept states on that the answers of acts take at least: those behind the nearest states that may be kept
+abbrev pub least_reached : StudyTold → ℕ → List Act → ℕ
+least_reached s places acts = all_reached (possibly_kept s.course s.stride places) (first_session s.course) acts
+
+-- and at most: those behind the nearest states that are sure to be
+abbrev pub most_reached : StudyTold → ℕ → List Act → ℕ
+most_reached s places acts = all_reached (surely_kept s.course s.stride places) (first_session s.course) acts
+
+-- A check and an audit simulate nothing. In a session each act that tells values runs its branch from the opening, and one that
+-- tells a state or a closing goes on from a kept state of the study: of a branch that an act forked or edited, from one before its
+-- stop.
 abbrev pub simulated : Due → ℕ
 simulated (bundled s) = study_events s.course
 simulated (counted s) = 0
@@ -87,9 +98,10 @@ simulated (described bytes s) = study_events s.course
 simulated (rewound targets places s) = study_events s.course
 simulated (crossed target stock orders places s) = study_events s.course
 simulated (audited b) = 0
-simulated (carried_out acts places s) = study_events s.course + all_run (first_session s.course) acts
+simulated (carried_out acts places s) = study_events s.course + all_run (first_session s.course) acts + least_reached s places acts
 
--- how many steps may be made besides: those from kept states on
+-- How many steps may be made besides: those from kept states on. In a session that is none where each state that may be kept is
+-- sure to be.
 abbrev pub allowed : Due → ℕ
 allowed (bundled s) = 0
 allowed (counted s) = 0
@@ -98,7 +110,7 @@ allowed (described bytes s) = 0
 allowed (rewound targets places s) = steps_to_all s places targets
 allowed (crossed target stock orders places s) = steps_to s places target
 allowed (audited b) = 0
-allowed (carried_out acts places s) = all_reached (surely_kept s.course s.stride places) (first_session s.course) acts
+allowed (carried_out acts places s) = most_reached s places acts - least_reached s places acts
 
 -- How many steps are made at most where not all is written. An act that memory is wanting for makes no more than its study's limit
 -- of events.

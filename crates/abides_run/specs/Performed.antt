@@ -33,13 +33,14 @@ IsUnsent NoEvent = ⊥
 IsUnsent Memory = Unit {0}
 
 -- These bytes were made and sent to a sink; or a first part of them, and why no more. The counts are those of the sink's
--- faults, before and after, and then the bytes that it has taken.
+-- faults, before and after, and then the bytes that it has taken. The count rises exactly where a write failed.
 pub record Sent (bytes : List ℕ) (faults_before faults_after : ℕ) (before after : Option (List ℕ)) (result : Result (Unit {0}) Status) : Type 0 where
   pub whole : OnOk result (after ≡ appended before bytes)
   pub cut : OnErr result (TookPrefix before after bytes)
   pub unsent : IfErr result IsUnsent
   pub fault : IfErr result (λ st. st ≡ WriteFault → Rose faults_before faults_after)
   pub steady : OnOk result (faults_after ≡ faults_before)
+  pub wanting : IfErr result (λ st. ¬ (st ≡ WriteFault) → faults_after ≡ faults_before)
   pub never_falls : faults_before ≤ faults_after
 
 -- All of these bytes were written once so many events and at most so many more were simulated, or why not, and at most so many
@@ -50,7 +51,7 @@ pub record Performed (bytes : List ℕ) (events more most : ℕ) (before after :
   pub counter : Counts events more most before.steps after.steps before.taken after.taken status
   pub cut : TookPrefix before.taken after.taken bytes
   pub fault : status ≡ WriteFault → Rose before.writes after.writes
-  pub steady : status ≡ Ok → after.writes ≡ before.writes
+  pub steady : ¬ (status ≡ WriteFault) → after.writes ≡ before.writes
   pub never_falls : before.writes ≤ after.writes
 
 -- a status that comes once a study was found
@@ -80,7 +81,7 @@ pub record Finished (come : Verdict) (probes : Probes) (arguments : List (List �
   pub named : (fetched : List (List ℕ)) → Names come fetched status name
   pub argument : NamesOne arguments status name
   pub fault : status ≡ WriteFault → Rose before.writes after.writes
-  pub steady : status ≡ Ok → after.writes ≡ before.writes
+  pub steady : ¬ (status ≡ WriteFault) → after.writes ≡ before.writes
   pub refused : IsRefusal status → after.taken ≡ before.taken
   pub unmoved : IsStill status → after.steps ≡ before.steps
   pub out_still : IsRefusal status → after.writes ≡ before.writes

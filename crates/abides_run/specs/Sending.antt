@@ -35,7 +35,7 @@ part_before old new a b cut = record {
 
 -- no piece
 pub sent_nothing : (f : ℕ) (old : Option (List ℕ)) → Sent [] f f old old (Ok tt)
-sent_nothing f old = record { whole = appended_nothing old; cut = tt; unsent = tt; fault = tt; steady = refl; never_falls = le_refl f }
+sent_nothing f old = record { whole = appended_nothing old; cut = tt; unsent = tt; fault = tt; steady = refl; wanting = tt; never_falls = le_refl f }
 
 -- a piece for which there was no memory
 pub unsent_for_memory : (a : List ℕ) (f : ℕ) (old : Option (List ℕ)) (st : Status) → st ≡ Memory → Sent a f f old old (Err st)
@@ -45,6 +45,7 @@ unsent_for_memory a f old st is = record {
   unsent = subst IsUnsent (sym is) tt;
   fault = λ e. let no : Memory ≡ WriteFault = sym is ∙ e in cc;
   steady = tt;
+  wanting = λ other. refl;
   never_falls = le_refl f;
 }
 
@@ -57,6 +58,7 @@ sent_behind a b f m n old mid new (Ok done) first still s = record {
   unsent = tt;
   fault = tt;
   steady = s.steady ∙ still;
+  wanting = tt;
   never_falls = subst (λ (k : ℕ). k ≤ n) still s.never_falls;
 }
 sent_behind a b f m n old mid new (Err st) first still s = record {
@@ -65,6 +67,7 @@ sent_behind a b f m n old mid new (Err st) first still s = record {
   unsent = s.unsent;
   fault = λ e. subst (λ (k : ℕ). Rose k n) still (s.fault e);
   steady = tt;
+  wanting = λ other. s.wanting other ∙ still;
   never_falls = subst (λ (k : ℕ). k ≤ n) still s.never_falls;
 }
 
@@ -77,5 +80,6 @@ sent_before a b f n old new st s = record {
   unsent = s.unsent;
   fault = s.fault;
   steady = tt;
+  wanting = s.wanting;
   never_falls = s.never_falls;
 }

@@ -17,7 +17,7 @@ ghost use Rattle.abides_run.specs.Ends.{Ends, Fetches, IsRefusedWith, IsSought};
 ghost use Rattle.abides_run.specs.AllFound.{IsPaced, IsStaffed, IsTasked, IsWorkedBy, arguments_on, verdict_on_all};
 ghost use Rattle.abides_run.specs.Performed.{IsStride};
 
-use crate::ending::{Ending, named, nameless};
+use crate::ending::{Ending, nameless};
 use crate::found::{Found, FoundStudy};
 use crate::status::Status;
 use command_words::{Request, Task, ask};
@@ -36,7 +36,8 @@ const MOST_BUNDLE_BYTES: u64 = 1_073_741_824;
 // Each branch of the large study has at most so many events.
 const LARGE_LIMIT: u32 = 20_000;
 
-// The bytes that the library holds under a name, of which there may be so many.
+// The bytes that the library holds under a name, of which there may be so many. There is memory for the name before the library is
+// asked, so that a failed read is told as one.
 fn fetch_file<L: Library>(
     alloc: Global,
     name: &str,
@@ -50,15 +51,34 @@ fn fetch_file<L: Library>(
     ensures sought { IfErr result (λ e. IsSought e.status) }
     ensures fault { IfErr result (λ e. e.status ≡ Status.ReadFault → Rose (L.faults library.old) (L.faults library.new)) }
     ensures steady { OnOk result (L.faults library.new ≡ L.faults library.old) }
+    ensures stands { IfErr result (λ e. ¬ (e.status ≡ Status.ReadFault) → L.faults library.new ≡ L.faults library.old) }
     ensures rises { L.faults library.old ≤ L.faults library.new }
     ensures files { L.files library.new ≡ L.files library.old }
 {
+    let Ok(told) = String::from_str(alloc, name) else {
+        return Err(nameless(alloc, Status::Memory));
+    };
     match library.fetch(alloc, name, most) {
-        Ok(Fetched::Whole(bytes)) => Ok(bytes),
-        Ok(Fetched::Absent) => Err(named(alloc, Status::NoStudy, name)),
-        Ok(Fetched::TooLong) => Err(named(alloc, Status::TooLong, name)),
-        Err(FetchError::Failed) => Err(named(alloc, Status::ReadFault, name)),
-        Err(FetchError::Memory) => Err(nameless(alloc, Status::Memory)),
+        Ok(Fetched::Whole(bytes)) => {
+            drop(told);
+            Ok(bytes)
+        }
+        Ok(Fetched::Absent) => Err(Ending {
+            status: Status::NoStudy,
+            name: told,
+        }),
+        Ok(Fetched::TooLong) => Err(Ending {
+            status: Status::TooLong,
+            name: told,
+        }),
+        Err(FetchError::Failed) => Err(Ending {
+            status: Status::ReadFault,
+            name: told,
+        }),
+        Err(FetchError::Memory) => {
+            drop(told);
+            Err(nameless(alloc, Status::Memory))
+        }
     }
 }
 
@@ -81,6 +101,7 @@ fn fetch_series<L: Library>(
     ensures sought { IfErr result (λ e. IsSought e.status) }
     ensures fault { IfErr result (λ e. e.status ≡ Status.ReadFault → Rose (L.faults library.old) (L.faults library.new)) }
     ensures steady { OnOk result (L.faults library.new ≡ L.faults library.old) }
+    ensures stands { IfErr result (λ e. ¬ (e.status ≡ Status.ReadFault) → L.faults library.new ≡ L.faults library.old) }
     ensures rises { L.faults library.old ≤ L.faults library.new }
     ensures files { L.files library.new ≡ L.files library.old }
 {
@@ -137,6 +158,7 @@ fn read_study<L: Library>(alloc: Global, bytes: &[u8], library: &mut L) -> Resul
     ensures sought { IfErr result (λ e. IsSought e.status) }
     ensures fault { IfErr result (λ e. e.status ≡ Status.ReadFault → Rose (L.faults library.old) (L.faults library.new)) }
     ensures steady { OnOk result (L.faults library.new ≡ L.faults library.old) }
+    ensures stands { IfErr result (λ e. ¬ (e.status ≡ Status.ReadFault) → L.faults library.new ≡ L.faults library.old) }
     ensures rises { L.faults library.old ≤ L.faults library.new }
     ensures files { L.files library.new ≡ L.files library.old }
 {
@@ -183,6 +205,7 @@ fn fetch_further<L: Library>(
     ensures sought { IfErr result (λ e. IsSought e.status) }
     ensures fault { IfErr result (λ e. e.status ≡ Status.ReadFault → Rose (L.faults library.old) (L.faults library.new)) }
     ensures steady { OnOk result (L.faults library.new ≡ L.faults library.old) }
+    ensures stands { IfErr result (λ e. ¬ (e.status ≡ Status.ReadFault) → L.faults library.new ≡ L.faults library.old) }
     ensures rises { L.faults library.old ≤ L.faults library.new }
     ensures files { L.files library.new ≡ L.files library.old }
 {
@@ -217,6 +240,7 @@ fn find_file<'a, L: Library>(
     ensures sought { IfErr result (λ e. IsSought e.status) }
     ensures fault { IfErr result (λ e. e.status ≡ Status.ReadFault → Rose (L.faults library.old) (L.faults library.new)) }
     ensures steady { OnOk result (L.faults library.new ≡ L.faults library.old) }
+    ensures stands { IfErr result (λ e. ¬ (e.status ≡ Status.ReadFault) → L.faults library.new ≡ L.faults library.old) }
     ensures rises { L.faults library.old ≤ L.faults library.new }
     ensures files { L.files library.new ≡ L.files library.old }
 {
@@ -314,6 +338,7 @@ fn find_bundle<'a, L: Library>(
     ensures sought { IfErr result (λ e. IsSought e.status) }
     ensures fault { IfErr result (λ e. e.status ≡ Status.ReadFault → Rose (L.faults library.old) (L.faults library.new)) }
     ensures steady { OnOk result (L.faults library.new ≡ L.faults library.old) }
+    ensures stands { IfErr result (λ e. ¬ (e.status ≡ Status.ReadFault) → L.faults library.new ≡ L.faults library.old) }
     ensures rises { L.faults library.old ≤ L.faults library.new }
     ensures files { L.files library.new ≡ L.files library.old }
 {
@@ -344,6 +369,7 @@ fn find_request<'a, L: Library>(
     ensures sought { IfErr result (λ e. IsSought e.status) }
     ensures fault { IfErr result (λ e. e.status ≡ Status.ReadFault → Rose (L.faults library.old) (L.faults library.new)) }
     ensures steady { OnOk result (L.faults library.new ≡ L.faults library.old) }
+    ensures stands { IfErr result (λ e. ¬ (e.status ≡ Status.ReadFault) → L.faults library.new ≡ L.faults library.old) }
     ensures rises { L.faults library.old ≤ L.faults library.new }
     ensures files { L.files library.new ≡ L.files library.old }
 {
@@ -374,10 +400,10 @@ pub fn find_asked<'a, L: Library>(
     ensures sought { IfErr result (λ e. (e.status ≡ Status.Usage) ⊎ IsSought e.status) }
     ensures usage { IfErr result (λ e. e.status ≡ Status.Usage → asked_of (texts words.entry.now) ≡ None) }
     ensures not_asked { IfErr result (λ e. asked_of (texts words.entry.now) ≡ None → (e.status ≡ Status.Usage) ⊎ (e.status ≡ Status.Memory)) }
-    ensures unasked { IfErr result (λ e. e.status ≡ Status.Usage → L.faults library.new ≡ L.faults library.old) }
     ensures unread { IsLarge (asked_of (texts words.entry.now)) → L.faults library.new ≡ L.faults library.old }
     ensures fault { IfErr result (λ e. e.status ≡ Status.ReadFault → Rose (L.faults library.old) (L.faults library.new)) }
     ensures steady { OnOk result (L.faults library.new ≡ L.faults library.old) }
+    ensures stands { IfErr result (λ e. ¬ (e.status ≡ Status.ReadFault) → L.faults library.new ≡ L.faults library.old) }
     ensures rises { L.faults library.old ≤ L.faults library.new }
     ensures files { L.files library.new ≡ L.files library.old }
 {

@@ -8,6 +8,7 @@ ghost use Rattle.abides_run.specs.Words.{texts};
 ghost use Rattle.abides_run.specs.Ended.{Ended, EndedAs, TellsFaulty};
 
 use crate::{Status, run, write_note};
+use command_words::words_behind_name;
 use outside::{Counted, FileLibrary, OpenGate, Sink, Steps};
 use probe_desk::{Fees, Probe, Range, SpreadSum, Volume};
 use std::alloc::{AllocError, Global};
@@ -166,8 +167,8 @@ fn run_with<R: Files + AllocGlobal + Threads + Wait + Sync, O: Sink, N: Sink>(
 fn command_words<R: Env + AllocGlobal>(rt: &R) -> Result<Vec<String>, Status>
     ensures { IfErr result (λ status. (status ≡ Status.Usage) ⊎ (status ≡ Status.Memory)) }
 {
-    let args = match env::args(rt) {
-        Ok(args) => args,
+    let given = match env::args(rt) {
+        Ok(given) => given,
         Err(e) => {
             return if e.kind() == ErrorKind::OutOfMemory {
                 Err(Status::Memory)
@@ -176,11 +177,8 @@ fn command_words<R: Env + AllocGlobal>(rt: &R) -> Result<Vec<String>, Status>
             };
         }
     };
-    let mut words = Vec::new(rt.alloc());
-    for word in args.skip(1) {
-        if words.push(word).is_err() {
-            return Err(Status::Memory);
-        }
+    match given.collect(rt.alloc()) {
+        Ok(given) => Ok(words_behind_name(given)),
+        Err(_) => Err(Status::Memory),
     }
-    Ok(words)
 }

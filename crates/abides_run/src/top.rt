@@ -34,6 +34,9 @@ fn answer<R: Threads + Wait + Sync, L: Library, O: Sink, G: Gate + Sync, D: Ledg
         (record { reads = L.faults library.new; writes = O.faults out.new; taken = O.taken out.new; steps = steps.new })
         result.status }
     ensures named { Named (L.files library.old) (texts words.now) result.status (string_bytes result.name) }
+
+    // A fault of the library or of out is never told as want of memory here.
+    ensures wanting { result.status ≡ Status.Memory → (L.faults library.new ≡ L.faults library.old) × (O.faults out.new ≡ O.faults out.old) }
     ensures files { L.files library.new ≡ L.files library.old }
 {
     match find_asked(alloc, words, library) {

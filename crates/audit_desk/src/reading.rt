@@ -28,7 +28,7 @@ pub fn read_written(alloc: Global, course: &Course, bytes: &[u8]) -> Result<Bund
     ensures { Gives (bundle_back course.now) result }
 {
     bundles_come_back();
-    course.is_course();
+    course.know_course();
     read_bundle(alloc, bytes)
 }
 

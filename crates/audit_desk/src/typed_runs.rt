@@ -50,7 +50,7 @@ fn ending_fits<W: RunOutcomes>(course: &Course, ran: &W, segment: u32)
 {
     courses_stay_in_range();
     agents_have_all_positions();
-    course.is_course();
+    course.know_course();
     closing_fits(ran.closing(segment));
 }
 
@@ -66,7 +66,7 @@ fn branch_fits<W: RunOutcomes>(
     ensures { OnOk result (IsTypedRun course.now branch) }
 {
     listed_runs_are_runs();
-    course.is_course();
+    course.know_course();
     let last = course.last_segment(branch);
     segments_fit(alloc, course, ran, last)?;
     ending_fits(course, ran, last);

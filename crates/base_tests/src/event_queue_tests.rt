@@ -8,9 +8,7 @@ use std::process::Abort;
 
 const PUSHES: u64 = 4_000;
 
-fn wakeup(time: u64, seq: u64) -> Message
-    ensures { result.seq ≡ seq }
-{
+fn wakeup(time: u64, seq: u64) -> Message {
     Message {
         time,
         seq,
@@ -23,11 +21,14 @@ fn wakeup(time: u64, seq: u64) -> Message
 // A message joins under the next number.
 fn join(queue: &mut Queue, time: u64, next: u64)
     requires room { 0 < queue.old.spare }
+    requires few { length queue.old.list ≤ next }
+    requires small { next < 10000 }
     requires before { All (λ m. m.seq < next) queue.old.list }
     ensures before { All (λ m. m.seq < next + 1) queue.new.list }
+    ensures few { length queue.new.list ≤ next + 1 }
     ensures spare { queue.new.spare ≡ queue.old.spare - 1 }
 {
-    queue.push(wakeup(time, next));
+    queue.push_body(time, next, 1, 1, &Body::Wake);
 }
 
 // When a message comes, and its number.
@@ -43,9 +44,7 @@ fn same(rt: &impl Abort, told: Option<Message>, hoped: Option<Message>) {
 }
 
 // A question of agent 1 to the exchange.
-fn question(time: u64, seq: u64) -> Message
-    ensures { result.seq ≡ seq }
-{
+fn question(time: u64, seq: u64) -> Message {
     Message {
         time,
         seq,
@@ -58,40 +57,38 @@ fn question(time: u64, seq: u64) -> Message
 // A question joins under the next number.
 fn ask(queue: &mut Queue, time: u64, next: u64)
     requires room { 0 < queue.old.spare }
+    requires few { length queue.old.list ≤ next }
+    requires small { next < 10000 }
     requires before { All (λ m. m.seq < next) queue.old.list }
     ensures before { All (λ m. m.seq < next + 1) queue.new.list }
+    ensures few { length queue.new.list ≤ next + 1 }
     ensures spare { queue.new.spare ≡ queue.old.spare - 1 }
 {
-    queue.push(question(time, next));
+    queue.push_body(time, next, 1, 0, &Body::Ask(0));
 }
 
 // The least message is put back to a time.
 fn put_back(queue: &mut Queue, time: u64, next: u64) -> Option<Message>
     requires before { All (λ m. m.seq < next) queue.old.list }
     ensures before { All (λ m. m.seq < next) queue.new.list }
+    ensures same { length queue.new.list ≡ length queue.old.list }
     ensures spare { queue.new.spare ≡ queue.old.spare }
 {
-    let m = queue.pop_least()?;
-    queue.push(Message { time, ..m });
-    Some(m)
-}
-
-// The least message gets a time and the next number.
-fn replace(queue: &mut Queue, time: u64, next: u64) -> Option<Message>
-    requires before { All (λ m. m.seq < next) queue.old.list }
-    ensures before { All (λ m. m.seq < next + 1) queue.new.list }
-    ensures spare { queue.new.spare ≡ queue.old.spare }
-{
-    queue.replace_least(time, next)
+    let least = queue.peek_least().copied();
+    queue.delay_least(time);
+    least
 }
 
 // The least message leaves.
 fn leave(queue: &mut Queue, next: u64) -> Option<Message>
     requires before { All (λ m. m.seq < next) queue.old.list }
     ensures before { All (λ m. m.seq < next) queue.new.list }
+    ensures fewer { length queue.new.list ≤ length queue.old.list }
     ensures spare { queue.old.spare ≤ queue.new.spare }
 {
-    queue.pop_least()
+    let least = queue.peek_least().copied();
+    queue.drop_least();
+    least
 }
 
 // The queue as a plain program: a list that each call walks.
@@ -148,17 +145,18 @@ fn assert_same(rt: &impl Abort, listed: &[Message], queue: &mut Queue, plain: &m
         let least = plain.pop_least();
         holds(rt, Some(*message) == least);
         same(rt, queue.peek_least().copied(), least);
-        same(rt, queue.pop_least(), least);
+        queue.drop_least();
     }
     equal(rt, queue.len(), 0);
+    queue.drop_least();
     same(rt, queue.peek_least().copied(), None);
-    same(rt, queue.pop_least(), None);
 }
 
 // The least message of both is put back to a time.
 fn put_back_both(rt: &impl Abort, queue: &mut Queue, plain: &mut PlainQueue, time: u64, next: u64)
     requires before { All (λ m. m.seq < next) queue.old.list }
     ensures before { All (λ m. m.seq < next) queue.new.list }
+    ensures same { length queue.new.list ≡ length queue.old.list }
     ensures spare { queue.new.spare ≡ queue.old.spare }
 {
     let least = plain.pop_least();
@@ -180,9 +178,11 @@ fn assert_copied(rt: &impl Abort, alloc: Global, queue: &Queue, plain: &mut Plai
 // A wakeup joins both, and the least message of both is put back, leaves or stays.
 fn one_step(rt: &impl Abort, queue: &mut Queue, plain: &mut PlainQueue, next: u64)
     requires room { 0 < queue.old.spare }
+    requires few { length queue.old.list ≤ next }
     requires small { next < 10000 }
     requires before { All (λ m. m.seq < next) queue.old.list }
     ensures before { All (λ m. m.seq < next + 1) queue.new.list }
+    ensures few { length queue.new.list ≤ next + 1 }
     ensures spare { queue.old.spare ≤ queue.new.spare + 1 }
 {
     let time = next.wrapping_mul(7919) % 101;
@@ -213,8 +213,9 @@ fn agrees_with_a_plain_list(rt: HostRuntime) {
 // Messages join an empty queue under the numbers from 0 on, each a question or a wakeup, and each at its time.
 fn join_all(queue: &mut Queue, messages: &[(bool, u64)])
     requires none { queue.old.list ≡ [] }
+    requires few { length messages.now ≤ 10000 }
     requires room { length messages.now ≤ queue.old.spare }
-    ensures { All (λ m. m.seq < length messages.now) queue.new.list }
+    ensures before { All (λ m. m.seq < length messages.now) queue.new.list }
 {
     for i in 0..messages.len() {
         let (is_question, time) = messages[i];
@@ -246,21 +247,21 @@ const FOUR_WAKEUPS: [(bool, u64); 4] = [(false, 1005), (false, 1003), (false, 10
 
 const FOUR_LEAVE: [(bool, u64, u64); 4] = [
     (false, 1005, 0),
-    (false, 1006, 4),
-    (false, 1006, 5),
+    (false, 1006, 1),
+    (false, 1006, 2),
     (false, 1009, 3),
 ];
 
 #[test]
-fn replaces_the_least_among_several(rt: HostRuntime) {
+fn puts_back_the_least_among_several(rt: HostRuntime) {
     let mut queue = Queue::new(rt.alloc());
     assert!(rt; queue.reserve(4).is_ok());
     join_all(&mut queue, &FOUR_WAKEUPS);
-    same(&rt, replace(&mut queue, 1006, 4), Some(wakeup(1003, 1)));
-    same(&rt, replace(&mut queue, 1006, 5), Some(wakeup(1004, 2)));
+    same(&rt, put_back(&mut queue, 1006, 4), Some(wakeup(1003, 1)));
+    same(&rt, put_back(&mut queue, 1006, 4), Some(wakeup(1004, 2)));
     equal(&rt, queue.len(), 4);
-    leave_all(&rt, &mut queue, 6, &FOUR_LEAVE);
-    same(&rt, replace(&mut queue, 1010, 6), None);
+    leave_all(&rt, &mut queue, 4, &FOUR_LEAVE);
+    same(&rt, put_back(&mut queue, 1010, 4), None);
     drop(queue);
 }
 
@@ -275,7 +276,7 @@ const FIVE_MESSAGES: [(bool, u64); 5] = [
 const LAST_LEAVE: [(bool, u64, u64); 4] = [
     (false, 1004, 0),
     (true, 1004, 1),
-    (false, 1004, 5),
+    (false, 1004, 3),
     (true, 1006, 2),
 ];
 
@@ -287,9 +288,9 @@ fn delivers_wakeups_and_questions_in_one_order(rt: HostRuntime) {
     same(&rt, put_back(&mut queue, 1002, 5), Some(question(1001, 4)));
     same(&rt, leave(&mut queue, 5), Some(question(1002, 4)));
     same(&rt, put_back(&mut queue, 1006, 5), Some(question(1003, 2)));
-    same(&rt, replace(&mut queue, 1004, 5), Some(wakeup(1003, 3)));
+    same(&rt, put_back(&mut queue, 1004, 5), Some(wakeup(1003, 3)));
     equal(&rt, queue.len(), 4);
-    leave_all(&rt, &mut queue, 6, &LAST_LEAVE);
-    same(&rt, leave(&mut queue, 6), None);
+    leave_all(&rt, &mut queue, 5, &LAST_LEAVE);
+    same(&rt, leave(&mut queue, 5), None);
     drop(queue);
 }

@@ -159,7 +159,7 @@ fn frames<R: Abort + Threads + Wait + Sync>(
 ) -> Vec<u8> {
     courses_stay_in_range();
     segments_have_few_events(course);
-    course.is_course();
+    course.know_course();
     let mut steps: Steps<Counted> = Steps::new();
     let setup = Setup {
         stride: 5,

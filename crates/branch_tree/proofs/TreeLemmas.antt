@@ -11,11 +11,11 @@ use Rattle.branch_tree.specs.declared.branch.Branch.{Branch}
 use Rattle.branch_tree.specs.declared.error.PlanError.{PlanError}
 use Rattle.branch_tree.specs.declared.error.PlanError.TheVariants.{ParentNotBefore, StopOutOfRange, TooManyBranches, NameTwice, StopsMixed}
 use Rattle.branch_tree.specs.Plan.{no_branch, branch_at, parent_at, stop_at}
-use Rattle.branch_tree.specs.Tree.{IsRooted, late_from, late_parent, is_in_range, out_from, out_of_range, first_of, too_many, too_much, repeated_name, mixes, mixed_from, mixed_stop, plan_refusal}
+use Rattle.branch_tree.specs.Tree.{IsRooted, late_from, late_parent, is_in_range, out_from, out_of_range, earlier_refusal, too_many, too_much, repeated_name, mixes, mixed_from, mixed_stop, plan_refusal}
 use Rattle.branch_tree.specs.Planned.{IsTree}
 
 -- there is no refusal where neither is one
-pub none_first : (x y : Option PlanError) → first_of x y ≡ None → (x ≡ None) × (y ≡ None)
+pub none_first : (x y : Option PlanError) → earlier_refusal x y ≡ None → (x ≡ None) × (y ≡ None)
 none_first None y h = (refl, h)
 none_first (Some e) y h = cc
 
@@ -132,10 +132,10 @@ record Unrefused (bs : List Branch) (limit : ℕ) : Type 0 where
 unrefused : (bs : List Branch) (limit : ℕ) → plan_refusal bs limit ≡ None → Unrefused bs limit
 unrefused bs limit h =
     let e = option_map StopsMixed (mixed_stop bs) in
-    let d = first_of (too_much (length bs) limit) e in
-    let c = first_of (option_map NameTwice (repeated_name bs)) d in
-    let b = first_of (too_many (length bs)) c in
-    let a = first_of (option_map StopOutOfRange (out_of_range limit bs)) b in
+    let d = earlier_refusal (too_much (length bs) limit) e in
+    let c = earlier_refusal (option_map NameTwice (repeated_name bs)) d in
+    let b = earlier_refusal (too_many (length bs)) c in
+    let a = earlier_refusal (option_map StopOutOfRange (out_of_range limit bs)) b in
     let first = none_first (option_map ParentNotBefore (late_parent bs)) a h in
     let second = none_first (option_map StopOutOfRange (out_of_range limit bs)) b first.1 in
     let third = none_first (too_many (length bs)) c second.1 in

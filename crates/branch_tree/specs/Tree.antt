@@ -70,9 +70,9 @@ mixed_stop [] = None
 mixed_stop (root ∷ bs) = mixed_from [] 1 bs
 
 -- the first refusal that there is
-abbrev pub first_of : Option PlanError → Option PlanError → Option PlanError
-first_of (Some e) others = Some e
-first_of None others = others
+abbrev pub earlier_refusal : Option PlanError → Option PlanError → Option PlanError
+earlier_refusal (Some e) others = Some e
+earlier_refusal None others = others
 
 -- more than 256 branches
 abbrev pub too_many : ℕ → Option PlanError
@@ -84,8 +84,8 @@ too_much n limit = if nat_le (n * limit) 4000000 then None else Some (TooMuchWor
 
 -- why these branches are no tree, where runs have at most so many events
 abbrev pub plan_refusal : List Branch → ℕ → Option PlanError
-plan_refusal branches limit = first_of (option_map ParentNotBefore (late_parent branches))
-    (first_of (option_map StopOutOfRange (out_of_range limit branches))
-    (first_of (too_many (length branches))
-    (first_of (option_map NameTwice (repeated_name branches))
-    (first_of (too_much (length branches) limit) (option_map StopsMixed (mixed_stop branches))))))
+plan_refusal branches limit = earlier_refusal (option_map ParentNotBefore (late_parent branches))
+    (earlier_refusal (option_map StopOutOfRange (out_of_range limit branches))
+    (earlier_refusal (too_many (length branches))
+    (earlier_refusal (option_map NameTwice (repeated_name branches))
+    (earlier_refusal (too_much (length branches) limit) (option_map StopsMixed (mixed_stop branches))))))

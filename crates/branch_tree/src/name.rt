@@ -60,7 +60,7 @@ impl Name {
     }
 
     /// What holds of each name: it has 1 to 32 bytes. A proof has these facts behind a call.
-    pub fn is_short(&self)
+    pub fn know_length(&self)
         ensures some { 1 ≤ length self.now }
         ensures few { length self.now ≤ 32 }
     {

@@ -28,15 +28,15 @@ use Rattle.branch_workers.proofs.Parts.{part_few, part_number, part_there}
 use Rattle.branch_workers.proofs.Starts.{start_few}
 
 -- a segment's run at its beginning
-abbrev first_of : CourseTold → ℕ → Run
-first_of c s = started_at c.opening c.plan (segment_at c.plan s)
+abbrev started_first : CourseTold → ℕ → Run
+started_first c s = started_at c.opening c.plan (segment_at c.plan s)
 
 pub begins : (c : CourseTold) (keep : Keep) (s : ℕ) (x : RanTold) (r : Run) → x ≡ ran_as keep r → r ≡ started_at c.opening c.plan (segment_at c.plan s) → Fits c.opening r.state → IsUnderway c keep s 0 x
 begins c keep s x r kept is fits = record {
   run = r;
   is = kept;
   again = λ m l. ap (λ (q : Run). until_part c.opening (segment_at c.plan s).stop m q) is;
-  few = (let same = ap (λ (q : Run). q.state.events) is in let grows = stop-grows c.opening (segment_at c.plan s).stop (first_of c s) in omega arith);
+  few = (let same = ap (λ (q : Run). q.state.events) is in let grows = stop-grows c.opening (segment_at c.plan s).stop (started_first c s) in omega arith);
   fits = fits;
 }
 
@@ -63,7 +63,7 @@ module _ (c : CourseTold) (keep : Keep) (s e : ℕ) (x y : RanTold) (within : Is
   goes_most : (until_part c.opening (segment_at c.plan s).stop e h.run).state.events ≤ (segment_run c.opening c.plan (segment_at c.plan s)).state.events
   goes_most =
       let same = ap (λ (r : Run). r.state.events) (h.again e (omega arith)) in
-      let most = part_few c.opening (segment_at c.plan s).stop e (first_of c s) within l in omega arith
+      let most = part_few c.opening (segment_at c.plan s).stop e (started_first c s) within l in omega arith
 
   pub goes_few : (n : ℕ) → n ≤ (until_part c.opening (segment_at c.plan s).stop e (afresh x.state)).state.events → n ≤ (segment_run c.opening c.plan (segment_at c.plan s)).state.events
   goes_few n few = let same = ap (λ (k : State). k.events) goes_state in let most = goes_most in omega arith
@@ -97,7 +97,7 @@ module _ (c : CourseTold) (s : ℕ) (h : IsCourse c) (l : s < length (segments_i
 
   -- so it begins with no more
   pub begins_within : from_count c.opening c.plan (segment_at c.plan s) ≤ c.opening.limit
-  begins_within = let first = first_events in let run = run_within in let grows = stop-grows c.opening (segment_at c.plan s).stop (first_of c s) in omega arith
+  begins_within = let first = first_events in let run = run_within in let grows = stop-grows c.opening (segment_at c.plan s).stop (started_first c s) in omega arith
 
   -- its stop is within the limit
   pub stop_within : IsWithin c.opening.limit (segment_at c.plan s).stop
@@ -113,13 +113,13 @@ module _ (c : CourseTold) (s : ℕ) (h : IsCourse c) (l : s < length (segments_i
   -- Where a run of the segment stands at an event number that it passed, that is the number of one of the segment's states, and
   -- the run has the course's state at its key.
   module _ (e : ℕ) (from : from_count c.opening c.plan (segment_at c.plan s) < e) (to : e ≤ c.opening.limit) where
-    stands_to : (until_part c.opening (segment_at c.plan s).stop e (first_of c s)).state.events ≡ e → e ≤ (segment_end c.opening c.plan (segment_at c.plan s)).state.events
+    stands_to : (until_part c.opening (segment_at c.plan s).stop e (started_first c s)).state.events ≡ e → e ≤ (segment_end c.opening c.plan (segment_at c.plan s)).state.events
     stands_to events =
-        let few = part_few c.opening (segment_at c.plan s).stop e (first_of c s) stop_within to in
+        let few = part_few c.opening (segment_at c.plan s).stop e (started_first c s) stop_within to in
         let copy = ap (λ (q : Run). q.state.events) (segment-copy c.opening c.plan s (course-tree c h) h.limit l) in omega arith
 
     here : (keep : Keep) (x : RanTold) → x ≡ ran_as keep (until_part c.opening (segment_at c.plan s).stop e (started_at c.opening c.plan (segment_at c.plan s))) → x.state.events ≡ e
-        → (until_part c.opening (segment_at c.plan s).stop e (first_of c s)).state.events ≡ e
+        → (until_part c.opening (segment_at c.plan s).stop e (started_first c s)).state.events ≡ e
     here keep x is events = sym (ap (λ (y : RanTold). y.state.events) is) ∙ events
 
     pub number_is_key : (keep : Keep) (x : RanTold) → x ≡ ran_as keep (until_part c.opening (segment_at c.plan s).stop e (started_at c.opening c.plan (segment_at c.plan s))) → x.state.events ≡ e
@@ -134,7 +134,7 @@ module _ (c : CourseTold) (s : ℕ) (h : IsCourse c) (l : s < length (segments_i
         let run = here keep x is events in
         let few : c.opening.limit < 16777215 = (let most = h.opening.limit in omega arith) in
         ap (λ (y : RanTold). y.state) is
-        ∙ ap (λ (q : Run). q.state) (part_number c.opening (segment_at c.plan s).stop e (first_of c s) run)
+        ∙ ap (λ (q : Run). q.state) (part_number c.opening (segment_at c.plan s).stop e (started_first c s) run)
         ∙ sym (ap (λ (q : Run). q.state) (segment-after c.opening c.plan s e (course-tree c h) h.limit l (omega arith)))
         ∙ sym (after-full c.opening c.plan s e (course-tree c h) h.limit few l (omega arith) (stands_to run))
 
@@ -145,11 +145,11 @@ module _ (c : CourseTold) (s : ℕ) (h : IsCourse c) (l : s < length (segments_i
       let reaches = passed.reaches in
       let first = first_events in
       let copy = ap (λ (q : Run). q.state.events) (segment-copy c.opening c.plan s (course-tree c h) h.limit l) in
-      ap (λ (y : RanTold). y.state.events) is ∙ part_there c.opening (segment_at c.plan s).stop e (first_of c s) (omega arith) (omega arith)
+      ap (λ (y : RanTold). y.state.events) is ∙ part_there c.opening (segment_at c.plan s).stop e (started_first c s) (omega arith) (omega arith)
 
   -- A run of the segment to its stop, and to the limit of events at most, is the segment's own.
   pub runs_whole : until_part c.opening (segment_at c.plan s).stop c.opening.limit (started_at c.opening c.plan (segment_at c.plan s)) ≡ segment_run c.opening c.plan (segment_at c.plan s)
-  runs_whole = part-stop c.opening (segment_at c.plan s).stop (first_of c s) stop_within
+  runs_whole = part-stop c.opening (segment_at c.plan s).stop (started_first c s) stop_within
 
 -- a key of the shelf's grid is one of the plan's
 grid_at : (c : CourseTold) (plan : ShelfPlan) (stride s e : ℕ) → plan.grid ≡ grid_keys c.plan stride → is_in (key_at s e) plan.grid ≡ true → IsGridKey c.plan stride (key_at s e)

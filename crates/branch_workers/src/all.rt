@@ -89,7 +89,7 @@ fn run_seated<R: Threads + Wait + Sync, G: Gate + Sync, L: Ledger + Send, B: Roo
     requires new { NewFrom shift.now.shelf.now 0 seats.items }
     ensures { IfOk result (λ r. IsHandedBack shift.now.course.now.value shift.now.keep shift.now.shelf.now r.0.seats.items (map (λ v. v.items) r.0.outcomes.items) r.0.finished r.1) }
 {
-    shift.course.is_course();
+    shift.course.know_course();
     let workers = seats.len() as u32;
     let Ok(lanes) = first_lanes::<B>(shift.alloc, shift.course, workers, count) else {
         drop(seats);

@@ -131,7 +131,7 @@ fn pass<G, L: Ledger>(
     if shift.shelf.place_of(key).is_none() {
         return Ok(true);
     }
-    shift.course.is_course();
+    shift.course.know_course();
     let Ok(()) = continue_to(shift, key.segment, key.event, ran, steps) else {
         return Err(Memory);
     };

@@ -117,7 +117,7 @@ fn advance<R: Wait, G, L: Ledger>(
     ensures most { steps.new ≤ steps.old + own_of shift.now.course.now.value segment }
     ensures least { steps.old ≤ steps.new }
 {
-    shift.course.is_course();
+    shift.course.know_course();
     let most = shift.course.opening().limit;
     let mut entries = Trace::new(shift.alloc);
     let Ok(kernel) = kernel_at_start(rt, shift, seat, segment, &mut entries) else {
@@ -227,7 +227,7 @@ pub fn run_segment<R: Wait, G: Gate, L: Ledger>(
     ensures remains { Remains seat.old.view seat.new.view }
     ensures turns { seat.new.view.turns ≡ [] }
 {
-    shift.course.is_course();
+    shift.course.know_course();
     shift.gate.pass(worker, segment);
     let mut own = steps.split();
     let made = advance(rt, shift, seat, segment, &mut own);

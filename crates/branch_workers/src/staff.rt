@@ -26,7 +26,7 @@ pub(crate) fn first_lanes<B: Room>(
     ensures count { IfOk result (λ lanes. length lanes.items ≡ workers) }
     ensures pushed { IfOk result (λ lanes. All (λ lane. HasPushed course.now.plan [] lane.own.view.pushed) lanes.items) }
 {
-    course.is_course();
+    course.know_course();
     let Ok(mut lanes) = open_lanes::<B>(alloc, workers, count) else {
         return Err(Memory);
     };

@@ -1,8 +1,10 @@
 //! A worker, which takes segments from lanes until all are done.
 
-ghost use Rattle.std.specs.Prelude.{◌≡◌, ℕ, ◌+◌, ◌<◌, ◌≤◌, ◌^◌, ◌++◌, ◌∷◌, [], All, Some, true, false, IfSome, IsTrue, IsFalse, length, sum_by};
+ghost use Rattle.std.specs.Prelude.{◌≡◌, ◌⊎◌, ℕ, ◌+◌, ◌<◌, ◌≤◌, ◌^◌, ◌++◌, ◌∷◌, [], All, Some, true, false, IfSome, IsTrue, IsFalse, MatchOption, length, sum_by};
 ghost use Rattle.branch_tree.specs.Segments.{segments_in, children_of};
 ghost use Rattle.shelf_core.specs.After.{having_stopped};
+ghost use Rattle.branch_deques.specs.Lanes.{Took};
+ghost use Rattle.branch_deques.specs.Told.{Stole};
 ghost use Rattle.branch_workers.specs.Runs.{IsShelfOf};
 ghost use Rattle.branch_workers.specs.Workers.{IsAtWork, HasEnded, HasFinished, own_of};
 
@@ -39,10 +41,15 @@ fn push_all<B: Room>(lane: &mut Lane<B>, segments: &[u32])
     }
 }
 
-// The next segment of the own lane, or else of another's.
+// The next segment of the own lane, or else of another's: one that is the answer was taken, and nothing else was.
 fn next_segment<R: Wait, B: Room>(rt: &R, lane: &mut Lane<B>) -> Option<u32>
     ensures below { IfSome result (λ segment. segment < B.room) }
     ensures pushed { lane.new.own.view.pushed ≡ lane.old.own.view.pushed }
+    ensures taken { MatchOption result
+        ((lane.new.own.view ≡ lane.old.own.view) × (lane.new.others ≡ lane.old.others))
+        (λ segment.
+        (Took B.room (segment ∷ []) lane.old.own.view lane.new.own.view × (lane.new.others ≡ lane.old.others))
+        ⊎ ((lane.new.own.view ≡ lane.old.own.view) × Stole B.room segment lane.old.others lane.new.others)) }
 {
     if let Some(segment) = lane.pop() {
         return Some(segment);
@@ -110,7 +117,8 @@ fn try_segment<R: Wait, G: Gate, L: Ledger, B: Room>(
     true
 }
 
-// Whether a worker that found no segment ends: since all are done, which it notes, or since it is told to stop.
+// Whether a worker that found no segment ends: since it is told to stop, or since all are done, which it notes. A stop that its
+// seat has seen ends it, and so does the number of all segments done.
 fn ends<G, L: Ledger, B: Room>(shift: &Shift<'_, G>, worker: &mut Worker<L, B>) -> bool
     requires work { IsAtWork shift.now.course.now.value shift.now.keep shift.now.shelf.now worker.old.number worker.old.seat worker.old.steps worker.old.outcomes.items worker.old.lane.own.view.pushed }
     requires finished { worker.old.finished ≡ false }
@@ -119,14 +127,17 @@ fn ends<G, L: Ledger, B: Room>(shift: &Shift<'_, G>, worker: &mut Worker<L, B>) 
     ensures done { worker.new.finished ≡ true → length (segments_in shift.now.course.now.value.plan) ≤ worker.new.seat.view.done_seen }
     ensures goes_on { IsFalse result → worker.new.finished ≡ false }
     ensures stopped { IsTrue result → worker.new.finished ≡ false → worker.new.seat.view.stopped ≡ true }
+    ensures seen { worker.new.seat.view.stopped ≡ true → IsTrue result }
+    ensures over { worker.new.seat.view.done_seen ≡ length (segments_in shift.now.course.now.value.plan) → IsTrue result }
 {
     let count = shift.course.plan().segments().len();
     let progress = shift.shelf.progress(&mut worker.seat);
-    if !progress.stopped && progress.done as usize == count {
-        worker.finished = true;
+    if progress.stopped {
         return true;
     }
-    progress.stopped
+    let are_all_done = progress.done as usize == count;
+    worker.finished = are_all_done;
+    are_all_done
 }
 
 // What a worker does: it runs the segments of its lane and of the others', until all are done or it is told to stop.

@@ -31,9 +31,9 @@ use Rattle.checkpoint_shelf.specs.Holds.{Holds, Stands, Knows, IsSeat, seeing}
 use Rattle.shelf_core.specs.Made.{Makes, Sees}
 use Rattle.checkpoint_shelf.proofs.Rows.{length_map, at_mapped, set_map, set_same}
 
-first_of : List ℕ → ℕ
-first_of [] = 0
-first_of (n ∷ ns) = n
+head_number : List ℕ → ℕ
+head_number [] = 0
+head_number (n ∷ ns) = n
 
 -- Where an event through a seat is possible.
 pub can_at : (s : System) (n : ℕ) (v : SeatView) (test : SeatView → Bool) → slice_get s.views n ≡ Some v → v.spent ≡ false → test v ≡ true → through s n test ≡ true
@@ -75,9 +75,9 @@ module _ {C Co : Type 0} (Z : Type 0) (key_of : C → Key) (course_of : C → Co
       ap length h.words ∙ omega (arith, length-append (map place_code h.sys.places) (map claim_code h.sys.claims), length_map claim_code h.sys.claims, length_map place_code h.sys.places)
 
   pub number_is : (t : St) (h : Rule t) (id number : ℕ) (me : It) → IsSeat {Z = Z} k number me → get_elem? t.views id ≡ some me.0 → number ≡ id
-  unfolding first_of
+  unfolding head_number
   number_is t h id number me seat at = let o = h.orderly.own id me.0.seen (view_at t h id me.0 at) seat.live in
-      ap first_of (sym seat.numbers.1 ∙ o.1)
+      ap head_number (sym seat.numbers.1 ∙ o.1)
 
   -- The same of another plan that the seat's view names.
   pub about_is : (number : ℕ) (me : It) (k' : About C Co) → IsSeat {Z = Z} k number me → me.0.about ≡ Some k' → k ≡ k'

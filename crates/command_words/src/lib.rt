@@ -2,6 +2,7 @@
 #![tactic(auto)]
 
 mod asked;
+mod given;
 mod laws;
 mod line;
 mod mark;
@@ -10,6 +11,7 @@ mod text;
 pub mod worked;
 
 pub use asked::{Asked, Crossing, Request, Task, ask};
+pub use given::words_behind_name;
 pub use laws::marks_are_spelled;
 pub use mark::Mark;
 pub use text::Text;

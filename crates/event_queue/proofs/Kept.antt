@@ -1,5 +1,5 @@
 -- What holds of all waiting messages stays so when a message joins or leaves, and holds of the least.
-use Rattle.std.proofs.Common.{◌≡◌, ◌≢◌, ◌+◌, ℕ, All, Option, Some, None, IfSome, IfNone, true, false, not, cond, eqb, List, [], ◌∷◌, sym, subst, arith}
+use Rattle.std.proofs.Common.{◌≡◌, ◌+◌, ℕ, All, Option, Some, None, IfSome, IfNone, true, false, not, cond, eqb, List, [], ◌∷◌, sym, subst, arith}
 use Rattle.std.specs.List.{AllByRecursion, best_of}
 use Rattle.std.proofs.lemmas.List.Elements.{All-from_recursion, recursion_from_All, All-filter}
 use Rattle.market_types.specs.Room.{Room}
@@ -24,17 +24,12 @@ all-least P (x ∷ w) m e a =
     let s : best_of before x w ≡ m = grind arith in
     subst P s (best-all P x w r.0 r.1)
 
--- the same at what `pop_least` leaves
+-- the same at what `drop_least` leaves
 pub all-popped : (P : Message → Type 0) (r : Option Message) (old new : Room Message) → IfSome r (λ (m : Message). new ≡ record { list = without m.seq old.list; spare = old.spare + 1 }) → IfNone r (new ≡ old) → All P old.list → All P new.list
 all-popped P (Some m) old new left empty a = subst (λ (q : Room Message). All P q.list) (sym left) (all-without P m.seq old.list a)
 all-popped P None old new left empty a = subst (λ (q : Room Message). All P q.list) (sym empty) a
 
--- what `replace_least` needs, where no message has the number
-pub fresh-any : (n : ℕ) (o : Option Message) (w : List Message) → All (λ (x : Message). x.seq ≢ n) w → IfSome o (λ (m : Message). All (λ (x : Message). x.seq ≢ n) (without m.seq w))
-fresh-any n (Some m) w a = all-without (λ (x : Message). x.seq ≢ n) m.seq w a
-fresh-any n None w a = tt
-
--- the same at what `replace_least` leaves
-pub all-replaced : (P : Message → Type 0) (time seq : ℕ) (r : Option Message) (old new : Room Message) → IfSome r (λ (m : Message). new ≡ record { list = joined (record { time = time; seq = seq; from = m.from; to = m.to; body = m.body }) (without m.seq old.list); spare = old.spare }) → IfNone r (new ≡ old) → IfSome r (λ (m : Message). P (record { time = time; seq = seq; from = m.from; to = m.to; body = m.body })) → All P old.list → All P new.list
-all-replaced P time seq (Some m) old new replaced empty p a = subst (λ (q : Room Message). All P q.list) (sym replaced) (all-joined P (record { time = time; seq = seq; from = m.from; to = m.to; body = m.body }) (without m.seq old.list) p (all-without P m.seq old.list a))
-all-replaced P time seq None old new replaced empty p a = subst (λ (q : Room Message). All P q.list) (sym empty) a
+-- the same at what `delay_least` leaves
+pub all-delayed : (P : Message → Type 0) (time : ℕ) (r : Option Message) (old new : Room Message) → IfSome r (λ (m : Message). new ≡ record { list = joined (record { time = time; seq = m.seq; from = m.from; to = m.to; body = m.body }) (without m.seq old.list); spare = old.spare }) → IfNone r (new ≡ old) → IfSome r (λ (m : Message). P (record { time = time; seq = m.seq; from = m.from; to = m.to; body = m.body })) → All P old.list → All P new.list
+all-delayed P time (Some m) old new delayed empty p a = subst (λ (q : Room Message). All P q.list) (sym delayed) (all-joined P (record { time = time; seq = m.seq; from = m.from; to = m.to; body = m.body }) (without m.seq old.list) p (all-without P m.seq old.list a))
+all-delayed P time None old new delayed empty p a = subst (λ (q : Room Message). All P q.list) (sym empty) a

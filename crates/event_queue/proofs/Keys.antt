@@ -1,14 +1,14 @@
 -- Lemmas on the keys of two heaps as one list.
-use Rattle.std.proofs.Common.{◌≡◌, ℕ, ◌<◌, false, List, [], ◌∷◌, ◌++◌, Option, Some, None, IfSome, IsSome, length, get_or, drop, All, Bor, sym, refl, subst, arith}
+use Rattle.std.proofs.Common.{◌≡◌, ℕ, ◌<◌, IfNone, false, List, [], ◌∷◌, ◌++◌, Option, Some, None, IfSome, IsSome, length, get_or, drop, All, Bor, sym, refl, subst, arith}
 use Rattle.std.specs.Ordering.{is_lt}
 use Rattle.std.specs.BinaryHeap.{IsHeap, IsUpperBound}
 use Rattle.std.specs.List.{AllByRecursion}
 use Rattle.std.specs.List.Sorted.{IsPermutation}
 use Rattle.std.proofs.lemmas.Bool.Decides.{nat_tests}
 use Rattle.std.proofs.lemmas.List.Elements.{All-from_recursion, recursion_from_All}
-use Rattle.std.proofs.lemmas.List.Sorted.{IsPermutation-refl, IsPermutation-sym, IsPermutation-trans, IsPermutation-cons, IsPermutation-to_front, IsPermutation-append_left, IsPermutation-append_right}
-use Rattle.event_queue.specs.declared.due.Due.{Due}
-use Rattle.event_queue.specs.Dues.{by_due, IsAhead, IsFirst, IsMoved}
+use Rattle.std.proofs.lemmas.List.Sorted.{IsPermutation-refl, IsPermutation-sym, IsPermutation-trans, IsPermutation-cons, IsPermutation-to_front, IsPermutation-append_left, IsPermutation-append_right, All-permutation}
+use Rattle.event_queue.specs.Keys.{Due, by_due}
+use Rattle.event_queue.specs.Dues.{IsAhead, IsFirst, IsMoved}
 
 -- a key amid others is moved to the front
 two : (a b : Due) (v : List Due) → IsPermutation (a ∷ (b ∷ v)) (b ∷ (a ∷ v))
@@ -88,21 +88,29 @@ pub peeked_last : (o : Option (Bor Due)) (v x : List Due) → (IsSome o → 0 < 
 peeked_last (Some d) v x some top bound h a = first_of_last v x d.now (some refl) top (bound h) a
 peeked_last None v x some top bound h a = tt
 
--- it moves to its place under another time and number
-pub moved_first : (o : Option Due) (v u x : List Due) (time seq : ℕ) → IfSome o (λ (d : Due). v ≡ d ∷ drop 1 v) → IfSome o (λ (d : Due). IsUpperBound by_due d (drop 1 v)) → IfSome o (λ (d : Due). IsPermutation (record { time = time; seq = seq; slot = d.slot } ∷ drop 1 v) u) → IsAhead v x → IfSome o (λ (d : Due). IsMoved (v ++ x) (u ++ x) d (record { time = time; seq = seq; slot = d.slot }))
-moved_first (Some d) v u x time seq top bound p a = record {
+-- it moves to its place under another time
+pub moved_first : (o : Option Due) (v u x : List Due) (time : ℕ) → IfSome o (λ (d : Due). v ≡ d ∷ drop 1 v) → IfSome o (λ (d : Due). IsUpperBound by_due d (drop 1 v)) → IfSome o (λ (d : Due). IsPermutation (record { time = time; seq = d.seq; slot = d.slot } ∷ drop 1 v) u) → IsAhead v x → IfSome o (λ (d : Due). IsMoved (v ++ x) (u ++ x) d (record { time = time; seq = d.seq; slot = d.slot }))
+moved_first (Some d) v u x time top bound p a = record {
   rest = drop 1 v ++ x;
   split = subst (λ (l : List Due). IsPermutation (v ++ x) (l ++ x)) top (IsPermutation-refl (v ++ x));
   first = both_bound d (drop 1 v) x bound (subst (λ (l : List Due). IsAhead l x) top a);
-  moved = joins_first (record { time = time; seq = seq; slot = d.slot }) (drop 1 v) u x p;
+  moved = joins_first (record { time = time; seq = d.seq; slot = d.slot }) (drop 1 v) u x p;
 }
-moved_first None v u x time seq top bound p a = tt
+moved_first None v u x time top bound p a = tt
 
-pub moved_last : (o : Option Due) (v u x : List Due) (time seq : ℕ) → IfSome o (λ (d : Due). v ≡ d ∷ drop 1 v) → IfSome o (λ (d : Due). IsUpperBound by_due d (drop 1 v)) → IfSome o (λ (d : Due). IsPermutation (record { time = time; seq = seq; slot = d.slot } ∷ drop 1 v) u) → IsAhead v x → IfSome o (λ (d : Due). IsMoved (x ++ v) (x ++ u) d (record { time = time; seq = seq; slot = d.slot }))
-moved_last (Some d) v u x time seq top bound p a = record {
+pub moved_last : (o : Option Due) (v u x : List Due) (time : ℕ) → IfSome o (λ (d : Due). v ≡ d ∷ drop 1 v) → IfSome o (λ (d : Due). IsUpperBound by_due d (drop 1 v)) → IfSome o (λ (d : Due). IsPermutation (record { time = time; seq = d.seq; slot = d.slot } ∷ drop 1 v) u) → IsAhead v x → IfSome o (λ (d : Due). IsMoved (x ++ v) (x ++ u) d (record { time = time; seq = d.seq; slot = d.slot }))
+moved_last (Some d) v u x time top bound p a = record {
   rest = x ++ drop 1 v;
   split = subst (λ (l : List Due). IsPermutation (x ++ l) (d ∷ (x ++ drop 1 v))) (sym top) (to_front x d (drop 1 v));
   first = both_bound d x (drop 1 v) (subst (λ (l : List Due). IsAhead l x) top a) bound;
-  moved = joins_last (record { time = time; seq = seq; slot = d.slot }) (drop 1 v) u x p;
+  moved = joins_last (record { time = time; seq = d.seq; slot = d.slot }) (drop 1 v) u x p;
 }
-moved_last None v u x time seq top bound p a = tt
+moved_last None v u x time top bound p a = tt
+
+-- what holds of each slot stays as keys change places, as one leaves and as one is put off
+pub each_permutation : (P : Due → Type 0) (v w : List Due) → IsPermutation v w → AllByRecursion P v → AllByRecursion P w
+each_permutation P v w p a = recursion_from_All P w (All-permutation P v w p (All-from_recursion P v a))
+
+pub kind_left : (P : Due → Type 0) (n k : ℕ) (o : Option Due) (v w : List Due) → IfSome o (λ (d : Due). IsPermutation v (d ∷ w)) → IfNone o ((w ≡ v) × (k ≡ n)) → AllByRecursion P v → AllByRecursion P w
+kind_left P n k (Some d) v w p e a = (each_permutation P v (d ∷ w) p a).1
+kind_left P n k None v w p e a = subst (λ (l : List Due). AllByRecursion P l) (sym e.0) a

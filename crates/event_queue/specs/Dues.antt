@@ -1,16 +1,11 @@
 -- The heaps' keys, and the slots in which their messages stay.
-use Rattle.std.specs.Prelude.{◌≡◌, ◌+◌, ◌==◌, ℕ, nat_lt, if◌then◌else◌, List, [], ◌∷◌, length, map, slice_index_or}
+use Rattle.std.specs.Prelude.{◌≡◌, ◌+◌, ◌==◌, ℕ, Bool, true, false, nat_lt, if◌then◌else◌, List, [], ◌∷◌, length, map, slice_index_or}
 use Rattle.std.specs.BinaryHeap.{IsUpperBound}
 use Rattle.std.specs.List.Sorted.{IsPermutation}
-use Rattle.std.specs.Ordering.{nat_cmp, on, flip_args, then_cmp}
-use Rattle.std.specs.declared.cmp.Ordering.{Ordering}
 use Rattle.market_types.specs.declared.message.Message.{Message}
-use Rattle.market_types.specs.declared.message.Body.TheVariants.{Wake}
-use Rattle.event_queue.specs.declared.due.Due.{Due}
-
--- the order of each heap, whose greatest key is the one that is due first
-abbrev pub by_due : Due → Due → Ordering
-by_due = flip_args (then_cmp (on (λ (d : Due). d.time) nat_cmp) (on (λ (d : Due). d.seq) nat_cmp))
+use Rattle.market_types.specs.declared.message.Body.{Body}
+use Rattle.market_types.specs.declared.message.Body.TheVariants.{Wake, Order, Answer, Ask, Quote}
+use Rattle.event_queue.specs.Keys.{Due, by_due}
 
 -- the first of some keys is due before none of the others, or there are no keys at all
 abbrev pub IsAhead : List Due → List Due → Type 0
@@ -37,6 +32,18 @@ vacant = record { time = 0; seq = 0; from = 0; to = 0; body = Wake }
 -- the message of a key
 abbrev pub message_at : List Message → Due → Message
 message_at slots d = slice_index_or slots d.slot vacant
+
+-- whether a message is a wakeup
+abbrev pub is_wake : Body → Bool
+is_wake Wake = true
+is_wake (Order _) = false
+is_wake (Answer _) = false
+is_wake (Ask _) = false
+is_wake (Quote _) = false
+
+-- whether the message of a slot is one
+abbrev pub wakes : List Message → ℕ → Bool
+wakes slots n = is_wake (slice_index_or slots n vacant).body
 
 -- the messages of some keys
 abbrev pub held : List Message → List Due → List Message

@@ -3,15 +3,17 @@
 //! Nearly all messages that wait are wakeups: each trader has one, and few of them are due soon. The
 //! others come and go within their latency, a handful at a time, and make up most of the deliveries.
 //! In one heap each of these would pass by hundreds of wakeups, so it has a heap of its own, a few
-//! keys deep. The key that is due first is on top of one of the two heaps. Contracts see one list of
-//! keys, in any order.
+//! keys deep. The key that is due first is on top of one of the two heaps. Contracts see the keys
+//! of each heap in any order.
 
-ghost use Rattle.std.specs.Prelude.{◌≡◌, ◌<◌, ◌≤◌, ◌+◌, ◌-◌, ◌++◌, ◌∷◌, [], true, false, All, OnOk, OnErr, OnSome, IfOk, IfSome, IfNone, length, drop, vec_len, vec_capacity};
+ghost use Rattle.std.specs.Prelude.{◌≡◌, ◌<◌, ◌≤◌, ◌+◌, ◌-◌, ◌++◌, ◌∷◌, ℕ, Bool, [], true, false, All, OnOk, OnErr, OnSome, IfOk, IfSome, IfNone, length, drop, vec_len, vec_capacity};
 ghost use Rattle.std.specs.BinaryHeap.{heap_items, heap_len, heap_capacity, IsHeap, IsUpperBound};
+ghost use Rattle.std.specs.List.{AllByRecursion};
 ghost use Rattle.std.specs.List.Sorted.{IsPermutation};
-ghost use Rattle.event_queue.specs.Dues.{by_due, held, IsAhead, IsFirst, IsMoved};
+ghost use Rattle.event_queue.specs.Dues.{held, IsAhead, IsFirst, IsMoved};
+ghost use Rattle.event_queue.specs.Keys.{AreByKind, all_of, by_due};
 
-use crate::due::Due;
+use crate::key::Key;
 use market_types::{Memory, Message, Time, copied};
 use std::alloc::Global;
 use std::cmp::Ordering;
@@ -22,21 +24,19 @@ use std::marker::Model;
 /// key that left one of them can be replaced by one in the other.
 #[derive(Drop)]
 pub struct Heaps {
-    others: BinaryHeap<Due>,
-    wakeups: BinaryHeap<Due>,
+    others: BinaryHeap<Key>,
+    wakeups: BinaryHeap<Key>,
     spare: usize,
 }
 
 impl Model for Heaps {
-    ghost use Rattle.std.specs.Prelude.{◌≤◌, ◌+◌, ◌++◌};
+    ghost use Rattle.std.specs.Prelude.{◌≤◌, ◌+◌};
     ghost use Rattle.std.specs.BinaryHeap.{heap_items, heap_len, heap_capacity, IsHeap};
-    ghost use Rattle.market_types.specs.Room.{Room};
-    ghost use Rattle.event_queue.specs.declared.due.Due.{Due};
-    ghost use Rattle.event_queue.specs.Dues.{by_due};
+    ghost use Rattle.event_queue.specs.Keys.{Keys, by_due};
 
-    ghost Value = { Room Due };
+    ghost Value = { Keys };
 
-    ghost view = { λ h. record { list = heap_items h.others ++ heap_items h.wakeups; spare = h.spare } };
+    ghost view = { λ h. record { others = heap_items h.others; wakeups = heap_items h.wakeups; spare = h.spare } };
 
     ghost invariant = { λ h. record {
       room : heap_len h.others + heap_len h.wakeups + h.spare ≤ heap_capacity h.others;
@@ -49,7 +49,7 @@ impl Model for Heaps {
 impl Heaps {
     /// No keys. It takes no memory, and later calls take theirs from `alloc`.
     pub fn new(alloc: Global) -> Heaps
-        ensures { result ≡ record { list = []; spare = 0 } }
+        ensures { result ≡ record { others = []; wakeups = []; spare = 0 } }
     {
         Heaps {
             others: BinaryHeap::new(alloc),
@@ -60,7 +60,7 @@ impl Heaps {
 
     /// How many keys there are.
     pub fn len(&self) -> usize
-        ensures { result ≡ length self.now.list }
+        ensures { result ≡ length (all_of self.now) }
     {
         self.others.len() + self.wakeups.len()
     }
@@ -74,8 +74,8 @@ impl Heaps {
 
     /// Makes room for this many keys in all.
     pub fn reserve(&mut self, total: usize) -> Result<(), Memory>
-        requires { length self.old.list ≤ total }
-        ensures room { OnOk result (self.new ≡ record { list = self.old.list; spare = total - length self.old.list }) }
+        requires { length (all_of self.old) ≤ total }
+        ensures room { OnOk result (self.new ≡ record self.old { spare = total - length (all_of self.old) }) }
         ensures refused { OnErr result (self.new ≡ self.old) }
     {
         self.others.reserve(total - self.others.len())?;
@@ -85,11 +85,12 @@ impl Heaps {
     }
 
     /// A key joins, whose message is a wakeup or not. There is room for it.
-    pub fn push(&mut self, due: Due, is_wakeup: bool)
+    pub fn push(&mut self, due: Key, is_wakeup: bool)
         requires { 0 < self.old.spare }
-        ensures joins { IsPermutation (due ∷ self.old.list) self.new.list }
-        ensures grows { length self.new.list ≡ length self.old.list + 1 }
+        ensures joins { IsPermutation (due ∷ (all_of self.old)) (all_of self.new) }
+        ensures grows { length (all_of self.new) ≡ length (all_of self.old) + 1 }
         ensures spare { self.new.spare ≡ self.old.spare - 1 }
+        ensures kinds { (p : ℕ → Bool) → AreByKind p self.old → p due.slot ≡ is_wakeup → AreByKind p self.new }
     {
         self.spare -= 1;
         if is_wakeup {
@@ -100,9 +101,9 @@ impl Heaps {
     }
 
     /// The key that is due first, which stays. `None` where there is no key.
-    pub fn peek(&self) -> Option<&Due>
-        ensures first { IfSome result (λ d. IsFirst self.now.list d.now) }
-        ensures none { IfNone result (self.now.list ≡ []) }
+    pub fn peek(&self) -> Option<&Key>
+        ensures first { IfSome result (λ d. IsFirst (all_of self.now) d.now) }
+        ensures none { IfNone result (all_of self.now ≡ []) }
     {
         if is_ahead(&self.wakeups, &self.others) {
             self.wakeups.peek()
@@ -112,41 +113,44 @@ impl Heaps {
     }
 
     /// The key that is due first leaves. `None` where there is no key.
-    pub fn pop(&mut self) -> Option<Due>
-        ensures left { IfSome result (λ d. IsPermutation self.old.list (d ∷ self.new.list)) }
-        ensures first { IfSome result (λ d. IsUpperBound by_due d self.new.list) }
-        ensures shrinks { OnSome result (length self.new.list + 1 ≡ length self.old.list) }
+    pub fn pop(&mut self) -> Option<Key>
+        ensures left { IfSome result (λ d. IsPermutation (all_of self.old) (d ∷ (all_of self.new))) }
+        ensures first { IfSome result (λ d. IsUpperBound by_due d (all_of self.new)) }
+        ensures shrinks { OnSome result (length (all_of self.new) + 1 ≡ length (all_of self.old)) }
         ensures spare { OnSome result (self.new.spare ≡ self.old.spare + 1) }
-        ensures none { IfNone result (self.old.list ≡ []) }
+        ensures none { IfNone result (all_of self.old ≡ []) }
         ensures unchanged { IfNone result (self.new ≡ self.old) }
+        ensures kinds { (p : ℕ → Bool) → AreByKind p self.old → AreByKind p self.new }
     {
         let due = pop_first(&mut self.wakeups, &mut self.others)?;
         self.spare += 1;
         Some(due)
     }
 
-    /// The key that is due first gets another time and number and moves to its place, under its slot.
-    /// It comes back as it was; `None` where there is no key.
-    pub fn move_first(&mut self, time: Time, seq: u64) -> Option<Due>
-        ensures moved { IfSome result (λ d. IsMoved self.old.list self.new.list d (record { time = time; seq = seq; slot = d.slot })) }
-        ensures same { length self.new.list ≡ length self.old.list }
+    /// The key that is due first gets another time and moves to its place, under its number and slot. It
+    /// comes back as it was; `None` where there is no key.
+    pub fn move_first(&mut self, time: Time) -> Option<Key>
+        ensures moved { IfSome result (λ d. IsMoved (all_of self.old) (all_of self.new) d (record { time = time; seq = d.seq; slot = d.slot })) }
+        ensures same { length (all_of self.new) ≡ length (all_of self.old) }
         ensures spare { self.new.spare ≡ self.old.spare }
-        ensures none { IfNone result (self.old.list ≡ []) }
+        ensures none { IfNone result (all_of self.old ≡ []) }
         ensures unchanged { IfNone result (self.new ≡ self.old) }
+        ensures kinds { (p : ℕ → Bool) → AreByKind p self.old → AreByKind p self.new }
     {
         if is_ahead(&self.wakeups, &self.others) {
-            move_top(&mut self.wakeups, time, seq)
+            move_top(&mut self.wakeups, time)
         } else {
-            move_top(&mut self.others, time, seq)
+            move_top(&mut self.others, time)
         }
     }
 
     /// The same keys, with room for this many in all.
     pub fn copy(&self, alloc: Global, total: usize) -> Result<Heaps, Memory>
-        requires { length self.now.list ≤ total }
-        ensures same { IfOk result (λ h. IsPermutation self.now.list h.list) }
-        ensures long { IfOk result (λ h. length h.list ≡ length self.now.list) }
-        ensures spare { IfOk result (λ h. h.spare ≡ total - length self.now.list) }
+        requires { length (all_of self.now) ≤ total }
+        ensures same { IfOk result (λ h. IsPermutation (all_of self.now) (all_of h)) }
+        ensures long { IfOk result (λ h. length (all_of h) ≡ length (all_of self.now)) }
+        ensures spare { IfOk result (λ h. h.spare ≡ total - length (all_of self.now)) }
+        ensures kinds { IfOk result (λ h. (p : ℕ → Bool) → AreByKind p self.now → AreByKind p h) }
     {
         let others = copied_heap(alloc, &self.others, total)?;
         let wakeups = copied_heap(alloc, &self.wakeups, total)?;
@@ -160,8 +164,8 @@ impl Heaps {
 
     /// The messages of the keys, in the order in which the heaps hold these.
     pub fn listed(&self, alloc: Global, slots: &[Message]) -> Result<Vec<Message>, Memory>
-        requires { All (λ due. due.slot < length slots.now) self.now.list }
-        ensures { IfOk result (λ v. v.items ≡ held slots.now self.now.list) }
+        requires { All (λ due. due.slot < length slots.now) (all_of self.now) }
+        ensures { IfOk result (λ v. v.items ≡ held slots.now (all_of self.now)) }
     {
         let mut messages = Vec::new(alloc);
         list(&mut messages, self.others.as_slice(), slots)?;
@@ -171,7 +175,7 @@ impl Heaps {
 }
 
 // A key joins a heap that has room for it.
-fn add(heap: &mut BinaryHeap<Due>, due: Due)
+fn add(heap: &mut BinaryHeap<Key>, due: Key)
     requires room { heap_len heap.old < heap_capacity heap.old }
     requires order { IsHeap by_due (heap_items heap.old) }
     ensures joins { IsPermutation (due ∷ heap_items heap.old) (heap_items heap.new) }
@@ -187,7 +191,7 @@ fn add(heap: &mut BinaryHeap<Due>, due: Due)
 
 // Whether the key that is due first of both heaps is on top of `heap`. Where both are empty, it is said
 // to be.
-fn is_ahead(heap: &BinaryHeap<Due>, other: &BinaryHeap<Due>) -> bool
+fn is_ahead(heap: &BinaryHeap<Key>, other: &BinaryHeap<Key>) -> bool
     requires order { IsHeap by_due (heap_items heap.now) }
     requires other_order { IsHeap by_due (heap_items other.now) }
     ensures ahead { result ≡ true → IsAhead (heap_items heap.now) (heap_items other.now) }
@@ -206,7 +210,7 @@ fn is_ahead(heap: &BinaryHeap<Due>, other: &BinaryHeap<Due>) -> bool
 }
 
 // The key that is due first of both heaps leaves its heap. `None` where there is no key.
-fn pop_first(wakeups: &mut BinaryHeap<Due>, others: &mut BinaryHeap<Due>) -> Option<Due>
+fn pop_first(wakeups: &mut BinaryHeap<Key>, others: &mut BinaryHeap<Key>) -> Option<Key>
     requires order { IsHeap by_due (heap_items wakeups.old) }
     requires others_order { IsHeap by_due (heap_items others.old) }
     ensures left { IfSome result (λ d. IsPermutation (heap_items others.old ++ heap_items wakeups.old) (d ∷ (heap_items others.new ++ heap_items wakeups.new))) }
@@ -217,7 +221,9 @@ fn pop_first(wakeups: &mut BinaryHeap<Due>, others: &mut BinaryHeap<Due>) -> Opt
     ensures capacity { heap_capacity wakeups.new ≡ heap_capacity wakeups.old }
     ensures others_capacity { heap_capacity others.new ≡ heap_capacity others.old }
     ensures none { IfNone result (heap_items others.old ++ heap_items wakeups.old ≡ []) }
-    ensures unchanged { IfNone result (heap_items others.new ++ heap_items wakeups.new ≡ []) }
+    ensures unchanged { IfNone result ((heap_items others.new ≡ heap_items others.old) × (heap_items wakeups.new ≡ heap_items wakeups.old)) }
+    ensures kind { (p : ℕ → Bool) → AllByRecursion (λ d. p d.slot ≡ true) (heap_items wakeups.old) → AllByRecursion (λ d. p d.slot ≡ true) (heap_items wakeups.new) }
+    ensures others_kind { (p : ℕ → Bool) → AllByRecursion (λ d. p d.slot ≡ false) (heap_items others.old) → AllByRecursion (λ d. p d.slot ≡ false) (heap_items others.new) }
     ensures none_left { IfNone result (heap_len others.new + heap_len wakeups.new ≡ heap_len others.old + heap_len wakeups.old) }
 {
     if is_ahead(wakeups, others) {
@@ -227,35 +233,32 @@ fn pop_first(wakeups: &mut BinaryHeap<Due>, others: &mut BinaryHeap<Due>) -> Opt
     }
 }
 
-// The key that is due first gets another time and number and moves to its place, under its slot. It
+// The key that is due first gets another time and moves to its place, under its number and slot. It
 // comes back as it was; `None` where there is no key.
-fn move_top(heap: &mut BinaryHeap<Due>, time: Time, seq: u64) -> Option<Due>
+fn move_top(heap: &mut BinaryHeap<Key>, time: Time) -> Option<Key>
     requires order { IsHeap by_due (heap_items heap.old) }
     ensures top { IfSome result (λ d. heap_items heap.old ≡ d ∷ drop 1 (heap_items heap.old)) }
     ensures first { IfSome result (λ d. IsUpperBound by_due d (drop 1 (heap_items heap.old))) }
-    ensures moved { IfSome result (λ d. IsPermutation (record { time = time; seq = seq; slot = d.slot } ∷ drop 1 (heap_items heap.old)) (heap_items heap.new)) }
+    ensures moved { IfSome result (λ d. IsPermutation (record { time = time; seq = d.seq; slot = d.slot } ∷ drop 1 (heap_items heap.old)) (heap_items heap.new)) }
     ensures order { IsHeap by_due (heap_items heap.new) }
     ensures len { heap_len heap.new ≡ heap_len heap.old }
     ensures capacity { heap_capacity heap.new ≡ heap_capacity heap.old }
+    ensures kind { (p : ℕ → Bool) → (b : Bool) → AllByRecursion (λ d. p d.slot ≡ b) (heap_items heap.old) → AllByRecursion (λ d. p d.slot ≡ b) (heap_items heap.new) }
     ensures none { IfNone result (heap_items heap.old ≡ []) }
     ensures unchanged { IfNone result (heap.new ≡ heap.old) }
 {
     let mut top = heap.peek_mut()?;
     let due = *top;
-    *top = Due {
-        time,
-        seq,
-        slot: due.slot,
-    };
+    *top = due.delayed(time);
     Some(due)
 }
 
 // A heap of the same keys, with room for this many.
 fn copied_heap(
     alloc: Global,
-    heap: &BinaryHeap<Due>,
+    heap: &BinaryHeap<Key>,
     total: usize,
-) -> Result<BinaryHeap<Due>, Memory>
+) -> Result<BinaryHeap<Key>, Memory>
     requires { heap_len heap.now ≤ total }
     ensures same { IfOk result (λ h. IsPermutation (heap_items heap.now) (heap_items h)) }
     ensures order { IfOk result (λ h. IsHeap by_due (heap_items h)) }
@@ -272,12 +275,12 @@ fn copied_heap(
 }
 
 // Appends the messages of some keys.
-fn list(messages: &mut Vec<Message>, dues: &[Due], slots: &[Message]) -> Result<(), Memory>
+fn list(messages: &mut Vec<Message>, dues: &[Key], slots: &[Message]) -> Result<(), Memory>
     requires { All (λ due. due.slot < length slots.now) dues.now }
     ensures { OnOk result (messages.new.items ≡ messages.old.items ++ held slots.now dues.now) }
 {
     for due in dues {
-        messages.push(slots[due.slot])?;
+        messages.push(slots[due.slot()])?;
     }
     Ok(())
 }

@@ -6,8 +6,8 @@
 //! number, so that messages due at one time are delivered in the order in which they first joined.
 #![tactic(auto)]
 
-mod due;
 mod heaps;
+mod key;
 pub mod laws;
 mod queue;
 pub mod worked;

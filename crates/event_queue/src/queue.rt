@@ -1,17 +1,24 @@
 //! The queue.
 
-ghost use Rattle.std.specs.Prelude.{◌≡◌, ◌≢◌, ◌<◌, ◌≤◌, ◌+◌, ◌-◌, ◌++◌, ◌∷◌, ◌==◌, ℕ, [], if◌then◌else◌, All, OnOk, OnErr, IfOk, IfSome, IfNone, OnSome, length, nat_lt, option_map, slice_index_or, vec_len, vec_capacity};
+ghost use Rattle.std.specs.Prelude.{◌≡◌, ◌≢◌, ◌<◌, ◌≤◌, ◌+◌, ◌-◌, ◌++◌, ◌∷◌, ◌==◌, ◌^◌, ℕ, [], if◌then◌else◌, All, OnOk, OnErr, IfOk, IfSome, IfNone, OnSome, length, nat_lt, option_map, slice_index_or, vec_len, vec_capacity};
 ghost use Rattle.std.specs.List.Sorted.{IsPermutation, IsSortedBy};
 ghost use Rattle.event_queue.specs.InOrder.{in_order};
-ghost use Rattle.event_queue.specs.Dues.{times_free, vacant};
+ghost use Rattle.event_queue.specs.Dues.{is_wake, times_free, vacant};
 ghost use Rattle.event_queue.specs.Rising.{IsRising};
 ghost use Rattle.event_queue.specs.Waiting.{before, least, IsNew, joined, without};
 
-use crate::due::Due;
 use crate::heaps::Heaps;
+use crate::key::Key;
 use market_types::{AgentNo, Body, Memory, Message, Time, copied};
 use std::alloc::Global;
 use std::marker::Model;
+use std::slice::{from_mut, from_ref};
+
+// How many vacant slots are made at a time, at most.
+const SLOTS_AHEAD: usize = 32;
+
+// How many slots there may be: as many as a key can tell.
+const MOST_SLOTS: usize = 1 << 16;
 
 /// The waiting messages. The heaps move small keys; each message stays in one slot until it leaves.
 #[derive(Drop)]
@@ -23,25 +30,28 @@ pub struct Queue {
 }
 
 impl Model for Queue {
-    ghost use Rattle.std.specs.Prelude.{◌≡◌, ◌≤◌, ◌+◌, length, vec_len, vec_capacity};
+    ghost use Rattle.std.specs.Prelude.{◌≡◌, ◌≤◌, ◌+◌, ◌^◌, length, vec_len, vec_capacity};
     ghost use Rattle.std.specs.List.{AllByRecursion};
     ghost use Rattle.market_types.specs.Room.{Room};
     ghost use Rattle.market_types.specs.declared.message.Message.{Message};
-    ghost use Rattle.event_queue.specs.Dues.{held, IsTold, IsSharedOut};
+    ghost use Rattle.event_queue.specs.Dues.{held, wakes, IsTold, IsSharedOut};
+    ghost use Rattle.event_queue.specs.Keys.{AreByKind, all_of};
     ghost use Rattle.event_queue.specs.Numbered.{by_number, IsApart};
 
     ghost Value = { Room Message };
 
-    ghost view = { λ q. record { list = by_number (held q.slots.items q.heaps.list); spare = q.heaps.spare } };
+    ghost view = { λ q. record { list = by_number (held q.slots.items (all_of q.heaps)); spare = q.heaps.spare } };
 
     ghost invariant = { λ q. record {
-      slot_room : length q.heaps.list + q.heaps.spare ≤ vec_capacity q.slots;
-      free_room : length q.heaps.list + q.heaps.spare ≤ vec_capacity q.free;
+      slot_room : length (all_of q.heaps) + q.heaps.spare ≤ vec_capacity q.slots;
+      free_room : length (all_of q.heaps) + q.heaps.spare ≤ vec_capacity q.free;
       few : vec_len q.free ≤ q.heaps.spare;
-      every : vec_len q.slots ≡ length q.heaps.list + vec_len q.free;
-      told : AllByRecursion (IsTold q.slots.items) q.heaps.list;
-      shared_out : IsSharedOut q.slots.items q.free.items q.heaps.list;
-      apart : IsApart (held q.slots.items q.heaps.list);
+      every : vec_len q.slots ≡ length (all_of q.heaps) + vec_len q.free;
+      told : AllByRecursion (IsTold q.slots.items) (all_of q.heaps);
+      shared_out : IsSharedOut q.slots.items q.free.items (all_of q.heaps);
+      apart : IsApart (held q.slots.items (all_of q.heaps));
+      narrow : vec_len q.slots ≤ 2 ^ 16;
+      kinds : AreByKind (wakes q.slots.items) q.heaps;
     } };
 }
 
@@ -87,45 +97,23 @@ impl Queue {
         self.heaps.reserve(self.slots.len() + more)
     }
 
-    /// A message joins. A place was kept for it, and no waiting message has its number.
-    pub fn push(&mut self, m: Message)
-        requires room { 0 < self.old.spare }
-        requires fresh { IsNew m.seq self.old.list }
-        ensures joins { self.new ≡ record { list = joined m self.old.list; spare = self.old.spare - 1 } }
-        ensures grows { length self.new.list ≡ length self.old.list + 1 }
-    {
-        self.push_body(m.time, m.seq, m.from, m.to, &m.body);
-    }
-
     /// A message of these parts joins, due at a time in nanoseconds past midnight. A place was kept for
-    /// it, and no waiting message has its number.
+    /// it, fewer than 65,536 messages wait, and its number is below 2 ^ 48 and that of no waiting message.
     pub fn push_body(&mut self, time: Time, seq: u64, from: AgentNo, to: AgentNo, body: &Body)
         requires room { 0 < self.old.spare }
+        requires few { length self.old.list < 2 ^ 16 }
+        requires number { seq < 2 ^ 48 }
         requires fresh { IsNew seq self.old.list }
         ensures joins { self.new ≡ record { list = joined (record { time = time; seq = seq; from = from; to = to; body = body.now }) self.old.list; spare = self.old.spare - 1 } }
         ensures grows { length self.new.list ≡ length self.old.list + 1 }
     {
+        keep_free(&mut self.slots, &mut self.free, self.heaps.spare());
         let slot = store(&mut self.slots, &mut self.free, time, seq, from, to, body);
-        let due = Due { time, seq, slot };
-        self.heaps.push(due, matches!(body, Body::Wake));
+        self.heaps.push(Key::new(time, seq, slot), is_wakeup(body));
     }
 
-    /// The least message leaves: the one with the least time, and among those the least number.
-    /// `None` where none waits. Its number is then free, so that it can be put back.
-    pub fn pop_least(&mut self) -> Option<Message>
-        ensures least { result ≡ least self.old.list }
-        ensures left { IfSome result (λ m. self.new ≡ record { list = without m.seq self.old.list; spare = self.old.spare + 1 }) }
-        ensures gone { IfSome result (λ m. IsNew m.seq self.new.list) }
-        ensures shrinks { OnSome result (length self.new.list + 1 ≡ length self.old.list) }
-        ensures empty { IfNone result (self.new ≡ self.old) }
-    {
-        let least = self.peek_least()?;
-        let message = *least;
-        self.drop_least();
-        Some(message)
-    }
-
-    /// The least message leaves, as by `pop_least`, and isn't read. Where none waits, nothing changes.
+    /// The least message leaves: the one with the least time, and among those the least number. Where
+    /// none waits, nothing changes.
     pub fn drop_least(&mut self)
         ensures left { IfSome (least self.old.list) (λ m. self.new ≡ record { list = without m.seq self.old.list; spare = self.old.spare + 1 }) }
         ensures gone { IfSome (least self.old.list) (λ m. IsNew m.seq self.new.list) }
@@ -135,37 +123,21 @@ impl Queue {
         let Some(due) = self.heaps.pop() else {
             return;
         };
-        put(&mut self.free, due.slot);
+        put(&mut self.free, due.slot());
     }
 
-    /// The least message gets another time, in nanoseconds past midnight, and another number, as if it
-    /// left and joined again under them. It comes back as it was; `None` where none waits. No other
-    /// message has the number. It takes no memory and no place.
-    pub fn replace_least(&mut self, time: Time, seq: u64) -> Option<Message>
-        requires fresh { IfSome (least self.old.list) (λ m. IsNew seq (without m.seq self.old.list)) }
-        ensures least { result ≡ least self.old.list }
-        ensures replaced { IfSome result (λ m. self.new ≡ record { list = joined (record m { time = time; seq = seq }) (without m.seq self.old.list); spare = self.old.spare }) }
-        ensures same { length self.new.list ≡ length self.old.list }
-        ensures empty { IfNone result (self.new ≡ self.old) }
-    {
-        let least = self.peek_least()?;
-        let message = *least;
-        self.delay_least(time, seq);
-        Some(message)
-    }
-
-    /// The least message gets another time and another number, as by `replace_least`, and isn't read.
-    /// Where none waits, nothing changes.
-    pub fn delay_least(&mut self, time: Time, seq: u64)
-        requires fresh { IfSome (least self.old.list) (λ m. IsNew seq (without m.seq self.old.list)) }
-        ensures replaced { IfSome (least self.old.list) (λ m. self.new ≡ record { list = joined (record m { time = time; seq = seq }) (without m.seq self.old.list); spare = self.old.spare }) }
+    /// The least message gets another time, in nanoseconds past midnight, and keeps its number, as if it
+    /// left and joined again at that time. Where none waits, nothing changes. It takes no memory and no
+    /// place.
+    pub fn delay_least(&mut self, time: Time)
+        ensures delayed { IfSome (least self.old.list) (λ m. self.new ≡ record { list = joined (record m { time = time }) (without m.seq self.old.list); spare = self.old.spare }) }
         ensures same { length self.new.list ≡ length self.old.list }
         ensures empty { IfNone (least self.old.list) (self.new ≡ self.old) }
     {
-        let Some(due) = self.heaps.move_first(time, seq) else {
+        let Some(due) = self.heaps.move_first(time) else {
             return;
         };
-        rewrite(&mut self.slots, due.slot, time, seq);
+        delay(&mut self.slots, due.slot(), time);
     }
 
     /// The least message, which stays. `None` where none waits.
@@ -173,7 +145,7 @@ impl Queue {
         ensures { option_map (λ m. m.now) result ≡ least self.now.list }
     {
         match self.heaps.peek() {
-            Some(due) => self.slots.get(due.slot),
+            Some(due) => self.slots.get(due.slot()),
             None => None,
         }
     }
@@ -226,7 +198,69 @@ fn put<T: Drop>(list: &mut Vec<T>, value: T)
     }
 }
 
-// Writes a message of these parts into a free slot, or into a new one where none is free.
+// Whether a message that says this is a wakeup.
+fn is_wakeup(body: &Body) -> bool
+    ensures { result ≡ is_wake body.now }
+{
+    matches!(body, Body::Wake)
+}
+
+// Adds so many vacant slots, for which there is room.
+fn add_slots(slots: &mut Vec<Message>, free: &mut Vec<usize>, count: usize)
+    requires room { vec_len slots.old + count ≤ vec_capacity slots.old }
+    requires free_room { vec_len free.old + count ≤ vec_capacity free.old }
+    ensures same { (n : ℕ) → slice_index_or slots.new.items n vacant ≡ slice_index_or slots.old.items n vacant }
+    ensures added { (n : ℕ) → times_free n free.new.items + (if nat_lt n (length slots.old.items) then 1 else 0) ≡ times_free n free.old.items + (if nat_lt n (length slots.new.items) then 1 else 0) }
+    ensures len { vec_len slots.new ≡ vec_len slots.old + count }
+    ensures free_len { vec_len free.new ≡ vec_len free.old + count }
+    ensures capacity { vec_capacity slots.old ≤ vec_capacity slots.new }
+    ensures free_capacity { vec_capacity free.old ≤ vec_capacity free.new }
+{
+    for _i in 0..count {
+        put(free, slots.len());
+        put(
+            slots,
+            Message {
+                time: 0,
+                seq: 0,
+                from: 0,
+                to: 0,
+                body: Body::Wake,
+            },
+        );
+    }
+}
+
+// Where no slot is free, some vacant ones are added, a few at a time, as far as so many messages more
+// may join.
+fn keep_free(slots: &mut Vec<Message>, free: &mut Vec<usize>, spare: usize)
+    requires some { 0 < spare }
+    requires narrow { vec_len free.old ≡ 0 → vec_len slots.old < 2 ^ 16 }
+    requires room { vec_len free.old ≡ 0 → vec_len slots.old + spare ≤ vec_capacity slots.old }
+    requires free_room { vec_len free.old ≡ 0 → spare ≤ vec_capacity free.old }
+    ensures some { 0 < vec_len free.new }
+    ensures same { (n : ℕ) → slice_index_or slots.new.items n vacant ≡ slice_index_or slots.old.items n vacant }
+    ensures added { (n : ℕ) → times_free n free.new.items + (if nat_lt n (length slots.old.items) then 1 else 0) ≡ times_free n free.old.items + (if nat_lt n (length slots.new.items) then 1 else 0) }
+    ensures len { vec_len slots.new + vec_len free.old ≡ vec_len slots.old + vec_len free.new }
+    ensures few { vec_len free.old ≤ spare → vec_len free.new ≤ spare }
+    ensures narrow { vec_len slots.old ≤ 2 ^ 16 → vec_len slots.new ≤ 2 ^ 16 }
+    ensures capacity { vec_capacity slots.old ≤ vec_capacity slots.new }
+    ensures free_capacity { vec_capacity free.old ≤ vec_capacity free.new }
+{
+    if free.is_empty() {
+        let most = MOST_SLOTS - slots.len();
+        add_slots(slots, free, spare.min(most).min(SLOTS_AHEAD));
+    }
+}
+
+// What a message says, copied as one piece and not kind by kind.
+fn copy_body(place: &mut Body, body: &Body)
+    ensures { place.new ≡ body.now }
+{
+    from_mut(place).copy_from_slice(from_ref(body));
+}
+
+// Writes a message of these parts into a free slot.
 fn store(
     slots: &mut Vec<Message>,
     free: &mut Vec<usize>,
@@ -237,68 +271,57 @@ fn store(
     body: &Body,
 ) -> usize
     requires within { All (λ n. n < length slots.old.items) free.old.items }
-    requires room { vec_len free.old ≡ 0 → vec_len slots.old < vec_capacity slots.old }
+    requires some { 0 < vec_len free.old }
+    ensures slot { result < length slots.old.items }
     ensures written { slice_index_or slots.new.items result vacant ≡ record { time = time; seq = seq; from = from; to = to; body = body.now } }
     ensures others { (n : ℕ) → n ≢ result → slice_index_or slots.new.items n vacant ≡ slice_index_or slots.old.items n vacant }
     ensures unheld { (if nat_lt result (length slots.old.items) then 1 else 0) ≤ times_free result free.old.items }
     ensures taken { (n : ℕ) → (if result == n then 1 else 0) + times_free n free.new.items + (if nat_lt n (length slots.old.items) then 1 else 0) ≡ times_free n free.old.items + (if nat_lt n (length slots.new.items) then 1 else 0) }
-    ensures len { vec_len slots.new + vec_len free.old ≡ vec_len slots.old + vec_len free.new + 1 }
-    ensures free_len { vec_len free.new ≡ vec_len free.old - 1 }
+    ensures len { vec_len slots.new ≡ vec_len slots.old }
+    ensures free_len { vec_len free.new + 1 ≡ vec_len free.old }
     ensures capacity { vec_capacity slots.old ≤ vec_capacity slots.new }
     ensures free_capacity { vec_capacity free.old ≤ vec_capacity free.new }
 {
-    match free.pop() {
-        Some(slot) => {
-            let place = &mut slots[slot];
-            place.time = time;
-            place.seq = seq;
-            place.from = from;
-            place.to = to;
-            place.body = *body;
-            slot
-        }
-        None => append(slots, time, seq, from, to, body),
-    }
+    let Some(slot) = free.pop() else {
+        unreachable!()
+    };
+    write(slots, slot, time, seq, from, to, body);
+    slot
 }
 
-// Writes a message of these parts into a new slot.
-fn append(
+// Writes a message of these parts into a slot.
+fn write(
     slots: &mut Vec<Message>,
+    slot: usize,
     time: Time,
     seq: u64,
     from: AgentNo,
     to: AgentNo,
     body: &Body,
-) -> usize
-    requires { vec_len slots.old < vec_capacity slots.old }
-    ensures last { result ≡ length slots.old.items }
-    ensures items { slots.new.items ≡ slots.old.items ++ record { time = time; seq = seq; from = from; to = to; body = body.now } ∷ [] }
-    ensures len { vec_len slots.new ≡ vec_len slots.old + 1 }
-    ensures capacity { vec_capacity slots.old ≤ vec_capacity slots.new }
+)
+    requires within { slot < length slots.old.items }
+    ensures written { slice_index_or slots.new.items slot vacant ≡ record { time = time; seq = seq; from = from; to = to; body = body.now } }
+    ensures others { (n : ℕ) → n ≢ slot → slice_index_or slots.new.items n vacant ≡ slice_index_or slots.old.items n vacant }
+    ensures same { length slots.new.items ≡ length slots.old.items }
+    ensures len { vec_len slots.new ≡ vec_len slots.old }
+    ensures capacity { vec_capacity slots.new ≡ vec_capacity slots.old }
 {
-    let slot = slots.len();
-    put(
-        slots,
-        Message {
-            time,
-            seq,
-            from,
-            to,
-            body: *body,
-        },
-    );
-    slot
+    let place = &mut slots[slot];
+    place.time = time;
+    place.seq = seq;
+    place.from = from;
+    place.to = to;
+    copy_body(&mut place.body, body);
 }
 
-// A message gets another time and number in its slot.
-fn rewrite(slots: &mut Vec<Message>, slot: usize, time: Time, seq: u64)
+// A message gets another time in its slot.
+fn delay(slots: &mut Vec<Message>, slot: usize, time: Time)
     requires within { slot < length slots.old.items }
-    ensures written { slice_index_or slots.new.items slot vacant ≡ record (slice_index_or slots.old.items slot vacant) { time = time; seq = seq } }
+    ensures written { slice_index_or slots.new.items slot vacant ≡ record (slice_index_or slots.old.items slot vacant) { time = time } }
     ensures others { (n : ℕ) → n ≢ slot → slice_index_or slots.new.items n vacant ≡ slice_index_or slots.old.items n vacant }
     ensures same { length slots.new.items ≡ length slots.old.items }
     ensures len { vec_len slots.new ≡ vec_len slots.old }
     ensures capacity { vec_capacity slots.new ≡ vec_capacity slots.old }
 {
     slots[slot].time = time;
-    slots[slot].seq = seq;
 }

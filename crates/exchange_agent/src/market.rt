@@ -28,7 +28,7 @@ impl Exchange {
     }
 
     // What holds of each exchange.
-    fn is_sound(&self)
+    fn know_soundness(&self)
         ensures { IsSound self.now }
     {
         let _counts = &self.counts;
@@ -101,7 +101,7 @@ impl Exchange {
         ensures fee_refused { OnErr result (out.new.fee ≡ out.old.fee) }
     {
         fills_add_up();
-        self.is_sound();
+        self.know_soundness();
         self.answer(time, from, body, out)
     }
 }

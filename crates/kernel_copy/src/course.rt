@@ -58,7 +58,7 @@ impl Course {
 
     /// What holds of each course: its opening and edits are in the ranges of a study's rules, and its branches make a tree under
     /// the opening's limit of events. A proof has these facts behind a call.
-    pub fn is_course(&self)
+    pub fn know_course(&self)
         ensures { IsCourse self.now }
     {
         let _opening = &self.opening;

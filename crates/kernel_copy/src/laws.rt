@@ -59,6 +59,6 @@ pub fn segments_have_few_events(course: &Arc<Course>)
     ensures each { (s : ℕ) → s < length (segments_in course.now.value.plan) → own_count course.now.value.opening course.now.value.plan (segment_at course.now.value.plan s) ≤ 1000000 }
     ensures all { distinct course.now.value.opening course.now.value.plan < 2 ^ 52 }
 {
-    course.is_course();
+    course.know_course();
     is_tree(course.plan());
 }

@@ -9,7 +9,7 @@ use Rattle.market_types.specs.Timely.{IsTimely}
 use Rattle.event_queue.specs.Waiting.{least}
 use Rattle.market_floor.specs.declared.opening.Opening.{Opening}
 use Rattle.kernel_core.specs.Due.{due_by, until_time}
-use Rattle.kernel_core.specs.Seen.{IsEvent, afresh, first_of, folded, listed, message_or_vacant}
+use Rattle.kernel_core.specs.Seen.{IsEvent, afresh, first_waiting, folded, listed, message_or_vacant}
 use Rattle.kernel_core.specs.State.{State}
 use Rattle.kernel_core.specs.declared.stepped.Stepped.TheVariants.{Ended}
 use Rattle.kernel_core.specs.Step.{Happened, answer_by, end_of, event_of, step_of}
@@ -19,11 +19,11 @@ use Rattle.kernel_core.proofs.Stops.{advanced-events, advanced_by-behind, until-
 use Rattle.kernel_core.proofs.Times.{due-going, time-behind, time-grows, time-over, time-some, time-step}
 
 -- what was read as the least waiting message is the first one
-pub first-is : (s : State) (m : Message) → Some m ≡ least s.post.waiting → m ≡ first_of s
+pub first-is : (s : State) (m : Message) → Some m ≡ least s.post.waiting → m ≡ first_waiting s
 first-is s m is = ap message_or_vacant is
 
 -- where one waits, it is the first one
-pub first-waits : (s : State) (m : Message) → least s.post.waiting ≡ Some m → least s.post.waiting ≡ Some (first_of s)
+pub first-waits : (s : State) (m : Message) → least s.post.waiting ≡ Some m → least s.post.waiting ≡ Some (first_waiting s)
 first-waits s m is = is ∙ ap (λ (x : Message). Some x) (first-is s m (sym is))
 
 -- a run is one of no entries behind its own

@@ -1,8 +1,7 @@
 -- Lemmas on postings that join.
-use Rattle.std.proofs.Common.{◌≡◌, ℕ, ◌+◌, ◌≤◌, true, false, cond, ltb, List, Some, length, drop, ap, ◌∙◌, arith}
-use Rattle.std.specs.Prelude.{slice_get}
+use Rattle.std.proofs.Common.{◌≡◌, ℕ, ◌+◌, ◌<◌, ◌≤◌, true, false, cond, ltb, List, [], ◌∷◌, ◌++◌, All, length, map, drop, get_or, refl, ap, sym, ◌∙◌, arith}
 use Rattle.std.proofs.lemmas.List.{at_drop_more}
-use Rattle.std.proofs.lemmas.Option.{get_or_from_slice_get, slice_get_within}
+use Rattle.std.proofs.lemmas.List.Elements.{All-cons, All-head, All-nil, All-tail}
 use Rattle.market_types.specs.Limits.{most_waiting}
 use Rattle.market_types.specs.declared.message.Message.{Message}
 use Rattle.event_queue.specs.Waiting.{joined}
@@ -10,14 +9,36 @@ use Rattle.latency_model.specs.Tables.{Tables}
 use Rattle.market_floor.specs.declared.opening.Opening.{Opening}
 use Rattle.market_floor.specs.declared.posting.Posting.{Posting}
 use Rattle.kernel_core.specs.Post.{Post, joins}
-use Rattle.kernel_core.specs.Send.{all_sent, sent}
+use Rattle.kernel_core.specs.Send.{all_sent, message_of, sent}
 
--- the next posting of a list joins
-pub all_sent-next : (o : Opening) (groups : Tables) (from leave : ℕ) (p : Post) (xs : List Posting) (i : ℕ) (x : Posting) → slice_get xs i ≡ Some x
-    → all_sent o groups from leave p (drop i xs) ≡ all_sent o groups from leave (sent o groups from leave p x) (drop (i + 1) xs)
-all_sent-next o groups from leave p xs i x is =
-    at_drop_more (λ (ys : List Posting). all_sent o groups from leave p ys) xs i x (slice_get_within xs i x is)
-    ∙ ap (λ (y : Posting). all_sent o groups from leave (sent o groups from leave p y) (drop (i + 1) xs)) (get_or_from_slice_get xs i x x is)
+-- the postings of a list join behind those of another
+pub all_sent-both : (o : Opening) (groups : Tables) (from leave : ℕ) (p : Post) (xs ys : List Posting)
+    → all_sent o groups from leave p (xs ++ ys) ≡ all_sent o groups from leave (all_sent o groups from leave p xs) ys
+all_sent-both o groups from leave p [] ys = refl
+all_sent-both o groups from leave p (x ∷ xs) ys = all_sent-both o groups from leave (sent o groups from leave p x) xs ys
+
+-- the next of a list joins, each of which is a posting
+pub all_sent-next : {A : Type 0} (posting : A → Posting) (o : Opening) (groups : Tables) (from leave : ℕ) (p q start : Post) (xs : List A) (i : ℕ) (x : A)
+    → i < length xs → q ≡ sent o groups from leave p (posting (get_or xs i x)) → all_sent o groups from leave p (map posting (drop i xs)) ≡ start
+    → all_sent o groups from leave q (map posting (drop (i + 1) xs)) ≡ start
+all_sent-next posting o groups from leave p q start xs i x within is rest =
+    ap (λ (r : Post). all_sent o groups from leave r (map posting (drop (i + 1) xs))) is
+    ∙ sym (at_drop_more (λ (ys : List _). all_sent o groups from leave p (map posting ys)) xs i x within)
+    ∙ rest
+
+-- what holds of each posting of two lists holds of each of either
+pub All-front : {X : Type 0} (P : X → Type 0) (xs ys : List X) → All P (xs ++ ys) → All P xs
+All-front P [] ys h = All-nil P
+All-front P (x ∷ xs) ys h = All-cons P x xs (All-head P x (xs ++ ys) h) (All-front P xs ys (All-tail P x (xs ++ ys) h))
+
+pub All-behind : {X : Type 0} (P : X → Type 0) (xs ys : List X) → All P (xs ++ ys) → All P ys
+All-behind P [] ys h = h
+All-behind P (x ∷ xs) ys h = All-behind P xs ys (All-tail P x (xs ++ ys) h)
+
+-- and of each that the postings are made of
+pub All-made : {X : Type 0} (P : X → Type 0) {Y : Type 0} (f : Y → X) (ys : List Y) → All P (map f ys) → All (λ (y : Y). P (f y)) ys
+All-made P f [] h = All-nil (λ y. P (f y))
+All-made P f (y ∷ ys) h = All-cons (λ y. P (f y)) y ys (All-head P (f y) (map f ys) h) (All-made P f ys (All-tail P (f y) (map f ys) h))
 
 -- a message that joins raises each count by one at most
 pub joins-counts : (p : Post) (m : ℕ → Message) → ((joins p m).next_seq ≤ p.next_seq + 1) × ((joins p m).dropped ≤ p.dropped + 1)
@@ -26,3 +47,10 @@ joins-counts p m =
       | true ↦ (omega arith, omega arith)
       | false ↦ (omega arith, omega arith)
     ]
+
+-- and so does a posting of a list
+pub sent-counts : {A : Type 0} (posting : A → Posting) (o : Opening) (groups : Tables) (from leave : ℕ) (p q : Post) (xs : List A) (i : ℕ) (x : A)
+    → q ≡ sent o groups from leave p (posting (get_or xs i x)) → (q.next_seq ≤ p.next_seq + 1) × (q.dropped ≤ p.dropped + 1)
+sent-counts posting o groups from leave p q xs i x is =
+    let counts = joins-counts p (message_of o groups from leave (posting (get_or xs i x))) in
+    (omega (arith, ap (λ (r : Post). r.next_seq) is, counts.0), omega (arith, ap (λ (r : Post). r.dropped) is, counts.1))

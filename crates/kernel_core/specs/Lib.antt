@@ -10,7 +10,6 @@ pub mod Until
 pub mod Seen
 pub mod Due
 pub mod Edited
-mod EndBy
 pub mod Sound
 pub mod View
 pub mod Worked

@@ -1,11 +1,10 @@
 -- What an event tells where it stands, and what a keeper takes of a run.
-use Rattle.std.specs.Prelude.{ℕ, ◌+◌, pos, true, false, List, [], ◌∷◌, ◌++◌, Option, Some, None}
+use Rattle.std.specs.Prelude.{List, [], ◌∷◌, ◌++◌, Option, Some, None}
 use Rattle.market_types.specs.declared.feed.Feed.{Feed}
 use Rattle.market_types.specs.declared.message.Message.{Message}
 use Rattle.market_types.specs.Told.{EntryTold, EventTold, event, edit}
 use Rattle.event_queue.specs.Dues.{vacant}
 use Rattle.event_queue.specs.Waiting.{least}
-use Rattle.market_floor.specs.Reaction.{Reaction}
 use Rattle.kernel_core.specs.declared.keeper.EventSeen.{EventSeen}
 use Rattle.kernel_core.specs.State.{State}
 use Rattle.kernel_core.specs.Until.{Run}
@@ -26,45 +25,13 @@ seen_told e before after = record {
   after = after;
 }
 
--- the event of a number in which a message is put back
-abbrev pub back_told : ℕ → Message → ℕ → List Feed → EventTold
-back_told number m until before = record {
-  number = number;
-  time = m.time;
-  seq = m.seq;
-  from = m.from;
-  to = m.to;
-  put_back = true;
-  until = until;
-  fee = pos 0;
-  body = m.body;
-  before = before;
-  after = [];
-}
-
--- the event of a number in which a message is delivered
-abbrev pub delivery_told : ℕ → Message → Reaction → List Feed → EventTold
-delivery_told number m r before = record {
-  number = number;
-  time = m.time;
-  seq = m.seq;
-  from = m.from;
-  to = m.to;
-  put_back = false;
-  until = m.time + r.delay;
-  fee = r.fee;
-  body = m.body;
-  before = before;
-  after = r.feed;
-}
-
 abbrev pub message_or_vacant : Option Message → Message
 message_or_vacant None = vacant
 message_or_vacant (Some m) = m
 
 -- the least waiting message, where one waits
-abbrev pub first_of : State → Message
-first_of s = message_or_vacant (least s.post.waiting)
+abbrev pub first_waiting : State → Message
+first_waiting s = message_or_vacant (least s.post.waiting)
 
 -- a state with no entries before it
 abbrev pub afresh : State → Run

@@ -9,7 +9,7 @@ use Rattle.latency_model.specs.Tables.{group_count}
 use Rattle.event_queue.specs.Waiting.{least}
 use Rattle.market_floor.specs.declared.opening.Opening.{Opening}
 use Rattle.market_floor.specs.Opening.{IsOpening}
-use Rattle.kernel_core.specs.Post.{put_back as back_in_post, taken}
+use Rattle.kernel_core.specs.Post.{Post, put_back as back_in_post, taken}
 use Rattle.kernel_core.specs.Send.{all_sent}
 use Rattle.market_floor.specs.Ruled.{applied_by, ruled}
 use Rattle.market_floor.specs.Reaction.{Reaction, reaction}
@@ -22,12 +22,16 @@ abbrev pub end_of_waiting : Opening → Option Message → Option End
 end_of_waiting o None = Some Quiet
 end_of_waiting o (Some m) = if nat_lt o.close m.time then Some Closed else None
 
--- Why a state has no next event, the first that holds: a message was dropped, so many events stand as may be, no
--- message waits, or the least waiting message is later than the close.
+-- Why there is no next event with this mail and so many events, the first that holds: a message was dropped, so many events stand
+-- as may be, no message waits, or the least waiting message is later than the close.
+abbrev pub end_with : Opening → Post → ℕ → Option End
+end_with o p events =
+    if nat_lt 0 p.dropped then Some QueueFull
+    else (if events == o.limit then Some EventLimit else end_of_waiting o (least p.waiting))
+
+-- why a state has no next event
 abbrev pub end_of : Opening → State → Option End
-end_of o s =
-    if nat_lt 0 s.post.dropped then Some QueueFull
-    else (if s.events == o.limit then Some EventLimit else end_of_waiting o (least s.post.waiting))
+end_of o s = end_with o s.post s.events
 
 -- A state after an event, and what the event tells.
 pub record Happened : Type 0 where

@@ -1,5 +1,6 @@
 //! The kernel: its events up to a time.
 
+ghost use Rattle.market_floor.specs.Reaction.{most_posted};
 ghost use Rattle.std.specs.Prelude.{◌≡◌, ◌<◌, ◌≤◌, ◌⊎◌, ◌+◌, ◌-◌, ◌^◌, true, false, OnOk, IfOk, IsNone, All, max};
 ghost use Rattle.market_types.specs.Timely.{IsTimely};
 ghost use Rattle.kernel_core.specs.Due.{due_by, until_time};
@@ -70,7 +71,7 @@ impl Kernel {
         ensures time { self.old.time ≤ o.now.close → self.new.time ≤ o.now.close }
         ensures offsets { self.new.floor.offsets ≡ self.old.floor.offsets }
         ensures editable { (e : Edit) → IsEditOf self.old e → IsEditOf self.new e }
-        ensures drops { self.new.post.dropped ≤ max self.old.post.dropped 2000002 }
+        ensures drops { self.new.post.dropped ≤ max self.old.post.dropped most_posted }
         ensures fitting { Fits o.now self.new }
     {
         'events: while self.is_due(o, when, most) {
@@ -112,7 +113,7 @@ impl Kernel {
         ensures timely { All IsTimely trace.old.list → All IsTimely trace.new.list }
         ensures offsets { self.new.floor.offsets ≡ self.old.floor.offsets }
         ensures editable { (e : Edit) → IsEditOf self.old e → IsEditOf self.new e }
-        ensures drops { self.new.post.dropped ≤ max self.old.post.dropped 2000002 }
+        ensures drops { self.new.post.dropped ≤ max self.old.post.dropped most_posted }
         ensures fitting { Fits o.now self.new }
     {
         self.run_into_time(alloc, o, when, most, trace, steps)

@@ -39,7 +39,7 @@ fn edit_tables(groups: &mut Groups, edit: &Edit)
 fn edit_mail(mail: &mut Mail, time: Time, edit: &Edit)
     requires edit { IsMailEdit 511 edit.now }
     requires time { time < 2 ^ 62 }
-    requires numbers { mail.old.next_seq < 2 ^ 63 }
+    requires numbers { mail.old.next_seq < 2 ^ 48 }
     requires drops { mail.old.dropped < 2 ^ 63 }
     ensures { mail.new ≡ mail_after time edit.now mail.old }
 {

@@ -7,7 +7,7 @@ ghost use Rattle.agent_shell.specs.Trader.{told_of};
 ghost use Rattle.event_queue.specs.InOrder.{in_order};
 ghost use Rattle.event_queue.specs.Waiting.{before, least};
 ghost use Rattle.market_floor.specs.Floor.{offset_at, party_at};
-ghost use Rattle.kernel_core.specs.EndBy.{end_by};
+ghost use Rattle.kernel_core.specs.Step.{end_with};
 ghost use Rattle.kernel_core.specs.Step.{end_of};
 
 use crate::Mail;
@@ -59,8 +59,8 @@ pub struct KernelTold {
 // The message of the next event where so many stand, or why there is none.
 pub(crate) fn next_of<'a>(mail: &'a Mail, events: u32, o: &Opening) -> Result<&'a Message, End>
     ensures least { IfOk result (λ m. least mail.now.waiting ≡ Some m.now) }
-    ensures going { OnOk result (end_by o.now mail.now events ≡ None) }
-    ensures ended { IfErr result (λ end. end_by o.now mail.now events ≡ Some end) }
+    ensures going { OnOk result (end_with o.now mail.now events ≡ None) }
+    ensures ended { IfErr result (λ end. end_with o.now mail.now events ≡ Some end) }
 {
     if mail.dropped() > 0 {
         return Err(End::QueueFull);

@@ -1,6 +1,6 @@
 //! The mail.
 
-ghost use Rattle.std.specs.Prelude.{◌≡◌, ◌<◌, ◌≤◌, ◌+◌, ◌^◌, IfOk, IfSome, IfNone, OnSome, option_map, length, All};
+ghost use Rattle.std.specs.Prelude.{◌≡◌, ◌<◌, ◌≤◌, ◌+◌, ◌^◌, IfOk, IfSome, IfNone, option_map, length};
 ghost use Rattle.std.specs.List.Sorted.{IsPermutation, IsSortedBy};
 ghost use Rattle.market_types.specs.Limits.{most_waiting};
 ghost use Rattle.event_queue.specs.InOrder.{in_order};
@@ -134,7 +134,7 @@ impl Mail {
     }
 
     /// No more messages wait than may, and each has a number of its own that was given.
-    pub fn is_orderly(&self)
+    pub fn know_order(&self)
         ensures { IsOrderly self.now }
     {
         self.queue.numbers_rise();
@@ -149,34 +149,7 @@ impl Mail {
         self.queue.messages(alloc)
     }
 
-    /// The next message leaves. `None` where none waits.
-    pub fn take(&mut self) -> Option<Message>
-        ensures least { result ≡ least self.old.waiting }
-        ensures left { IfSome result (λ m. self.new ≡ taken self.old m) }
-        ensures shrinks { OnSome result (length self.new.waiting + 1 ≡ length self.old.waiting) }
-        ensures few { length self.new.waiting ≤ most_waiting }
-        ensures soonest { IfSome result (λ m. All (λ x. m.time ≤ x.time) self.new.waiting) }
-        ensures none { IfNone result (self.new ≡ self.old) }
-    {
-        self.queue.pop_least()
-    }
-
-    /// The next message is put back to a time, under its old number. `None` where none waits.
-    pub fn put_back(&mut self, time: Time) -> Option<Message>
-        ensures least { result ≡ least self.old.waiting }
-        ensures back { IfSome result (λ m. self.new ≡ put_back self.old m time) }
-        ensures same { length self.new.waiting ≡ length self.old.waiting }
-        ensures few { length self.new.waiting ≤ most_waiting }
-        ensures none { IfNone result (self.new ≡ self.old) }
-    {
-        let Some(m) = self.queue.peek_least() else {
-            return None;
-        };
-        let seq = m.seq;
-        self.queue.replace_least(time, seq)
-    }
-
-    /// The next message leaves, as by `take`, and isn't read. Where none waits, nothing changes.
+    /// The next message leaves. Where none waits, nothing changes.
     pub fn drop_least(&mut self)
         ensures left { IfSome (least self.old.waiting) (λ m. self.new ≡ taken self.old m) }
         ensures few { length self.new.waiting ≤ most_waiting }
@@ -185,24 +158,20 @@ impl Mail {
         self.queue.drop_least();
     }
 
-    /// The next message is put back to a time, in nanoseconds past midnight, under its old number, as by `put_back`, and
-    /// isn't read. Where none waits, nothing changes.
+    /// The next message is put back to a time, in nanoseconds past midnight, under its old number. Where
+    /// none waits, nothing changes.
     pub fn delay_least(&mut self, time: Time)
         ensures back { IfSome (least self.old.waiting) (λ m. self.new ≡ put_back self.old m time) }
         ensures same { length self.new.waiting ≡ length self.old.waiting }
         ensures few { length self.new.waiting ≤ most_waiting }
         ensures none { IfNone (least self.old.waiting) (self.new ≡ self.old) }
     {
-        let Some(m) = self.queue.peek_least() else {
-            return;
-        };
-        let seq = m.seq;
-        self.queue.delay_least(time, seq);
+        self.queue.delay_least(time);
     }
 
     // A message of these parts joins under the next number, or is dropped.
     fn join(&mut self, time: Time, from: AgentNo, to: AgentNo, body: &Body)
-        requires numbers { self.old.next_seq + 1 < 2 ^ 64 }
+        requires numbers { self.old.next_seq < 2 ^ 48 }
         requires drops { self.old.dropped + 1 < 2 ^ 64 }
         ensures joins { self.new ≡ joins self.old (λ seq. record { time = time; seq = seq; from = from; to = to; body = body.now }) }
         ensures counted { self.new.next_seq + self.new.dropped ≡ self.old.next_seq + self.old.dropped + 1 }
@@ -229,7 +198,7 @@ impl Mail {
         requires fits { IsGrouped o.now groups.now }
         requires addressed { IsAddressed (length o.now.traders) (length o.now.stocks) from (posting_of posting) }
         requires leaves { leave < 2 ^ 60 }
-        requires numbers { self.old.next_seq + 1 < 2 ^ 64 }
+        requires numbers { self.old.next_seq < 2 ^ 48 }
         requires drops { self.old.dropped + 1 < 2 ^ 64 }
         ensures sent { self.new ≡ sent o.now groups.now from leave self.old (posting_of posting.entry) }
         ensures counted { self.new.next_seq + self.new.dropped ≡ self.old.next_seq + self.old.dropped + 1 }
@@ -257,7 +226,7 @@ impl Mail {
         requires fits { IsGrouped o.now groups.now }
         requires addressed { IsAddressed (length o.now.traders) (length o.now.stocks) from posting }
         requires leaves { leave < 2 ^ 60 }
-        requires numbers { self.old.next_seq + 1 < 2 ^ 64 }
+        requires numbers { self.old.next_seq < 2 ^ 48 }
         requires drops { self.old.dropped + 1 < 2 ^ 64 }
         ensures sent { self.new ≡ sent o.now groups.now from leave self.old posting }
         ensures counted { self.new.next_seq + self.new.dropped ≡ self.old.next_seq + self.old.dropped + 1 }
@@ -280,7 +249,7 @@ impl Mail {
     /// An order of a trader joins under the next number and is due at a time, in nanoseconds past
     /// midnight, whatever the latency, or is dropped.
     pub fn inject(&mut self, from: AgentNo, time: Time, order: Inbound)
-        requires numbers { self.old.next_seq + 1 < 2 ^ 64 }
+        requires numbers { self.old.next_seq < 2 ^ 48 }
         requires drops { self.old.dropped + 1 < 2 ^ 64 }
         ensures injected { self.new ≡ injected from time order self.old }
         ensures counted { self.new.next_seq + self.new.dropped ≡ self.old.next_seq + self.old.dropped + 1 }

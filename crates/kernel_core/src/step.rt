@@ -1,26 +1,52 @@
 //! The kernel: its events.
 
-ghost use Rattle.std.specs.Prelude.{◌≡◌, ◌<◌, ◌≤◌, ◌+◌, ◌-◌, ◌^◌, true, Some, None, OnOk, OnErr, IfOk, IfErr, IsNone, All, max};
+ghost use Rattle.market_floor.specs.Reaction.{most_posted};
+ghost use Rattle.std.specs.Prelude.{◌≡◌, ◌<◌, ◌≤◌, ◌+◌, ◌-◌, ◌^◌, true, List, Some, None, OnOk, OnErr, IfOk, IfErr, IsNone, All, max};
+ghost use Rattle.market_types.specs.declared.feed.Feed.{Feed};
 ghost use Rattle.market_types.specs.Told.{event};
 ghost use Rattle.market_types.specs.Timely.{IsTimely};
 ghost use Rattle.event_queue.specs.Waiting.{least};
 ghost use Rattle.kernel_core.specs.Edited.{IsEditOf};
-ghost use Rattle.kernel_core.specs.Seen.{afresh, first_of, folded};
+ghost use Rattle.kernel_core.specs.Seen.{afresh, first_waiting, folded, seen_told};
 ghost use Rattle.kernel_core.specs.Step.{Fits, answer_by, end_of, event_of, raised};
 ghost use Rattle.kernel_core.specs.Until.{advanced, advanced_by, until};
 
-use crate::keeper::Keeper;
+use crate::keeper::{EventSeen, Keeper};
 use crate::kernel::{Kernel, next_of};
 use crate::mail_laws::mail_stays_sound;
 use crate::post::send_all;
 use crate::stepped::Stepped;
-use crate::telling::{tell_back, tell_delivery};
+use crate::telling::{meet, tell};
 use market_floor::laws::floors_stay_sound;
-use market_floor::{Opening, applied_by};
+use market_floor::{Happening, Opening, applied_by};
 use market_rules::Edit;
-use market_types::{End, Memory, Time, Trace};
+use market_types::{End, Memory, Message, Time, Trace};
 use outside::{Ledger, Steps};
 use std::alloc::Global;
+
+// The event of a number in which a message is put back or delivered, so that its receiver's own time is then this one, in
+// nanoseconds past midnight. Its fee is that of what happened.
+fn seen_of<'a>(
+    m: &'a Message,
+    number: u32,
+    put_back: bool,
+    until: Time,
+    out: &Happening,
+) -> EventSeen<'a>
+    ensures { (before : List Feed) → (after : List Feed) → seen_told result before after ≡ record { number = number; time = m.now.time; seq = m.now.seq; from = m.now.from; to = m.now.to; put_back = put_back; until = until; fee = out.now.fee; body = m.now.body; before = before; after = after } }
+{
+    EventSeen {
+        number,
+        time: m.time,
+        seq: m.seq,
+        from: m.from,
+        to: m.to,
+        put_back,
+        until,
+        fee: out.fee,
+        body: &m.body,
+    }
+}
 
 impl Kernel {
     // The event of the next message, unless the state is ended. The answer is its end, or whether the keeper took the event: it
@@ -36,13 +62,13 @@ impl Kernel {
         ensures same { IfOk result (λ r. OnErr r (self.new ≡ self.old)) }
         ensures keeper_same { IfOk result (λ r. OnErr r (K.told keeper.new ≡ K.told keeper.old)) }
         ensures going { IfOk result (λ r. OnOk r (end_of o.now self.old ≡ None)) }
-        ensures next { IfOk result (λ r. OnOk r (least self.old.post.waiting ≡ Some (first_of self.old))) }
-        ensures state { IfOk result (λ r. OnOk r (self.new ≡ (event_of o.now self.old (first_of self.old)).state)) }
-        ensures taken { IfOk result (λ r. IfOk r (λ kept. kept ≡ true → K.told keeper.new ≡ K.with (K.told keeper.old) (event_of o.now self.old (first_of self.old)).entry)) }
+        ensures next { IfOk result (λ r. OnOk r (least self.old.post.waiting ≡ Some (first_waiting self.old))) }
+        ensures state { IfOk result (λ r. OnOk r (self.new ≡ (event_of o.now self.old (first_waiting self.old)).state)) }
+        ensures taken { IfOk result (λ r. IfOk r (λ kept. kept ≡ true → K.told keeper.new ≡ K.with (K.told keeper.old) (event_of o.now self.old (first_waiting self.old)).entry)) }
         ensures sure { IfOk result (λ r. IfOk r (λ kept. K.is_sure → kept ≡ true)) }
-        ensures timely { IfOk result (λ r. OnOk r (IsTimely (event (event_of o.now self.old (first_of self.old)).entry))) }
+        ensures timely { IfOk result (λ r. OnOk r (IsTimely (event (event_of o.now self.old (first_waiting self.old)).entry))) }
         ensures fitting { Fits o.now self.new }
-        ensures drops { IfOk result (λ r. OnOk r (self.new.post.dropped ≤ 2000002)) }
+        ensures drops { IfOk result (λ r. OnOk r (self.new.post.dropped ≤ most_posted)) }
         ensures counted { IfOk result (λ r. OnOk r (self.new.events ≡ self.old.events + 1)) }
         ensures refused { OnErr result (self.new ≡ self.old) }
         ensures keeper_refused { OnErr result (K.told keeper.new ≡ K.told keeper.old) }
@@ -62,29 +88,24 @@ impl Kernel {
         let number = self.events + 1;
         let own = self.own[to];
         let applied = self.applied;
-        let floor = &mut self.floor;
+        let is_due = o.dated.is_due(applied, time);
         let out = &mut self.happening;
-        if m.time < own {
-            let Ok(kept) = tell_back(alloc, o, applied, number, own, m, floor, out, keeper) else {
-                return Err(Memory);
-            };
-            self.mail.delay_least(own);
-            self.applied = applied_by(o, applied, time);
-            self.events = number;
-            self.time = time;
-            return Ok(Ok(kept));
-        }
-        let Ok(kept) = tell_delivery(alloc, o, applied, number, m, floor, out, keeper) else {
+        let Ok(until) = meet(alloc, o, applied, is_due, own, m, &mut self.floor, out) else {
             return Err(Memory);
         };
-        let out = &self.happening;
-        let until = time + out.delay;
-        self.mail.drop_least();
-        send_all(&mut self.mail, o, &self.groups, from, until, &out.postings);
-        self.own[to] = until;
-        self.applied = applied_by(o, applied, time);
+        let seen = seen_of(m, number, time < own, until, out);
+        let kept = tell(alloc, &seen, out, keeper);
+        self.applied = applied_by(o, applied, is_due, time);
         self.events = number;
         self.time = time;
+        if time < own {
+            self.mail.delay_least(own);
+            return Ok(Ok(kept));
+        }
+        self.mail.drop_least();
+        let postings = &self.happening.postings;
+        send_all(&mut self.mail, o, &self.groups, from, until, postings);
+        self.own[to] = until;
         Ok(Ok(kept))
     }
 
@@ -110,7 +131,7 @@ impl Kernel {
         ensures fitting { Fits o.now self.new }
         ensures offsets { self.new.floor.offsets ≡ self.old.floor.offsets }
         ensures editable { (e : Edit) → IsEditOf self.old e → IsEditOf self.new e }
-        ensures drops { self.new.post.dropped ≤ max self.old.post.dropped 2000002 }
+        ensures drops { self.new.post.dropped ≤ max self.old.post.dropped most_posted }
         ensures refused { OnErr result (K.is_sure → self.new ≡ self.old) }
         ensures keeper_refused { OnErr result (K.is_sure → K.told keeper.new ≡ K.told keeper.old) }
     {
@@ -150,7 +171,7 @@ impl Kernel {
         ensures timely { All IsTimely trace.old.list → All IsTimely trace.new.list }
         ensures offsets { self.new.floor.offsets ≡ self.old.floor.offsets }
         ensures editable { (e : Edit) → IsEditOf self.old e → IsEditOf self.new e }
-        ensures drops { self.new.post.dropped ≤ max self.old.post.dropped 2000002 }
+        ensures drops { self.new.post.dropped ≤ max self.old.post.dropped most_posted }
         ensures kernel_refused { OnErr result (self.new ≡ self.old) }
         ensures trace_refused { OnErr result (trace.new.list ≡ trace.old.list) }
         ensures steps_refused { OnErr result (steps.new ≡ steps.old) }
@@ -186,7 +207,7 @@ impl Kernel {
         ensures time { self.old.time ≤ o.now.close → self.new.time ≤ o.now.close }
         ensures offsets { self.new.floor.offsets ≡ self.old.floor.offsets }
         ensures editable { (e : Edit) → IsEditOf self.old e → IsEditOf self.new e }
-        ensures drops { self.new.post.dropped ≤ max self.old.post.dropped 2000002 }
+        ensures drops { self.new.post.dropped ≤ max self.old.post.dropped most_posted }
         ensures fitting { Fits o.now self.new }
     {
         'events: while self.events() < stop {
@@ -226,7 +247,7 @@ impl Kernel {
         ensures timely { All IsTimely trace.old.list → All IsTimely trace.new.list }
         ensures offsets { self.new.floor.offsets ≡ self.old.floor.offsets }
         ensures editable { (e : Edit) → IsEditOf self.old e → IsEditOf self.new e }
-        ensures drops { self.new.post.dropped ≤ max self.old.post.dropped 2000002 }
+        ensures drops { self.new.post.dropped ≤ max self.old.post.dropped most_posted }
         ensures fitting { Fits o.now self.new }
     {
         self.run_into(alloc, o, stop, trace, steps)

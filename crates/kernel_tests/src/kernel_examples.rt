@@ -4,6 +4,7 @@ pub(crate) mod copies;
 mod dates;
 mod steps;
 
+ghost use Rattle.market_floor.specs.Reaction.{most_posted};
 ghost use Rattle.std.specs.Prelude.{◌≡◌, ◌≤◌, ◌∷◌, [], ℕ, IfOk, max, map, length, All, true};
 ghost use Rattle.agent_shell.specs.Parameters.{IsKind};
 ghost use Rattle.market_types.specs.Limits.{longest_delay};
@@ -107,7 +108,7 @@ pub(crate) fn run(
     requires { Fits o.now kernel.old }
     ensures fits { Fits o.now kernel.new }
     ensures offsets { kernel.new.floor.offsets ≡ kernel.old.floor.offsets }
-    ensures drops { kernel.new.post.dropped ≤ max kernel.old.post.dropped 2000002 }
+    ensures drops { kernel.new.post.dropped ≤ max kernel.old.post.dropped most_posted }
 {
     let mut steps: Steps<Counted> = Steps::new();
     let answer = kernel.run_until(alloc, o, stop, trace, &mut steps);

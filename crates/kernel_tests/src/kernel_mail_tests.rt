@@ -105,10 +105,9 @@ fn fill(mail: &mut Mail, cancels: u32)
 fn take(mail: &mut Mail) -> Option<u64>
     ensures { mail.new.next_seq + mail.new.dropped ≡ mail.old.next_seq + mail.old.dropped }
 {
-    match mail.take() {
-        Some(m) => Some(m.seq),
-        None => None,
-    }
+    let seq = least(mail);
+    mail.drop_least();
+    seq
 }
 
 // The number of the next message that leaves.
@@ -143,10 +142,12 @@ fn waits(rt: &impl Abort, alloc: Global, mail: &Mail, hoped: &[(u64, u64, u16, u
 
 // The message that is put back: when it was due, and its number.
 fn put_back(mail: &mut Mail, until: u64) -> Option<(u64, u64)> {
-    match mail.put_back(until) {
-        Some(m) => Some((m.time, m.seq)),
-        None => None,
-    }
+    let (time, seq) = match mail.least() {
+        Some(m) => (m.time, m.seq),
+        None => return None,
+    };
+    mail.delay_least(until);
+    Some((time, seq))
 }
 
 #[test]

@@ -10,10 +10,11 @@ ghost use Rattle.market_floor.specs.Sound.{FitsFloor, IsSoundFloor};
 ghost use Rattle.market_floor.specs.Worked.{halting};
 
 use crate::facts::{equal, holds};
-use agent_shell::{Kind, TraderSetting};
+use agent_shell::{Kind, Sending, TraderSetting};
+use exchange_agent::Outgoing;
 use market_floor::laws::floors_stay_sound;
 use market_floor::opening_worked::{markets_are_openings, opening};
-use market_floor::{Floor, Happening, Opening, Posting, applied_by};
+use market_floor::{Floor, Happening, Opening, applied_by};
 use market_rules::{Change, Dated, DatedList, Edit};
 use market_types::{AgentNo, Body, Message, Quote, Time};
 use std::alloc::Global;
@@ -136,31 +137,39 @@ fn deliver(
     floors_stay_sound();
     let m = message(rt, o, floor, time, from, to, body);
     let mut happening = Happening::new(alloc);
-    let answer = floor.deliver(alloc, o, 0, &m, &mut happening);
+    let is_due = o.dated.is_due(0, m.time);
+    let answer = floor.deliver(alloc, o, 0, is_due, &m, &mut happening);
     holds(rt, answer.is_ok());
     happening
 }
 
 // Whether the first posting is a quote of this state to agent 1.
 fn is_quote(happening: &Happening, state: u8) -> bool {
-    match happening.postings.get(0) {
+    let (replies, _) = happening.postings.lists();
+    match replies.first() {
         Some(
-            Posting::To {
+            Outgoing {
                 to: 1,
                 body: Body::Quote(quote),
-                ..
             },
         ) => quote.state == state,
         _ => false,
     }
 }
 
-// Whether the second posting is a wakeup at this time.
+// Whether a trader's second sending is a wakeup at this time.
 fn is_wakeup(happening: &Happening, time: Time) -> bool {
-    match happening.postings.get(1) {
-        Some(Posting::WakeAt(at)) => at == time,
+    let (_, sends) = happening.postings.lists();
+    match sends.get(1) {
+        Some(Sending::WakeAt(at)) => *at == time,
         _ => false,
     }
+}
+
+// How many replies the exchange gives to the mail, and how many messages a trader.
+fn posted(happening: &Happening) -> (usize, usize) {
+    let (replies, sends) = happening.postings.lists();
+    (replies.len(), sends.len())
 }
 
 // How many quotes the first trader heard, and how many draws it made.
@@ -186,10 +195,10 @@ fn a_watcher_wakes_and_hears(rt: HostRuntime) {
     let o = halting_opening(&rt, alloc);
     let mut floor = opened(&rt, alloc, &o);
     let woken = deliver(&rt, alloc, &o, &mut floor, 0, 1000, 1, 1, Body::Wake);
-    holds(&rt, woken.postings.len() == 2 && woken.delay == 0);
+    equal(&rt, (posted(&woken), woken.delay), ((0, 2), 0));
     holds(&rt, is_wakeup(&woken, 1_001_000));
     let heard = deliver(&rt, alloc, &o, &mut floor, 1, 1017, 0, 1, QUOTE);
-    equal(&rt, (heard.postings.len(), floor.traders()), (0, 1));
+    equal(&rt, (posted(&heard), floor.traders()), ((0, 0), 1));
     equal(&rt, first_told(&rt, &floor), (1, 1));
     drop(heard);
     drop(woken);
@@ -233,7 +242,7 @@ fn a_copy_halts(rt: HostRuntime) {
     let o = halting_opening(&rt, alloc);
     let floor = opened(&rt, alloc, &o);
     equal(&rt, ruled_on_a_copy(&rt, alloc, &o, &floor, 1600), 1);
-    equal(&rt, applied_by(&o, 0, 1600), 2);
+    equal(&rt, applied_by(&o, 0, o.dated.is_due(0, 1600), 1600), 2);
     drop(floor);
     drop(o);
 }

@@ -15,7 +15,7 @@ use Rattle.exchange_agent.specs.Market.{IsAskable}
 use Rattle.exchange_agent.specs.Outcome.{IsToTrader}
 use Rattle.market_floor.specs.Postings.{IsAddressed, earliest_of}
 use Rattle.market_floor.specs.Posted.{to_exchange, to_receiver}
-use Rattle.market_floor.specs.Reaction.{ArePosted}
+use Rattle.market_floor.specs.Reaction.{ArePosted, most_posted}
 
 sent-addressed : (traders stocks from : ℕ) (v : Sight) (t : Trader) (x : Sending) → 1 ≤ from → from ≤ traders → t.setting.stock < stocks → IsSending v t x → IsAddressed traders stocks from (to_exchange x)
 sent-addressed traders stocks from v t (To Wake extra) one few stock h = absurd h
@@ -49,7 +49,7 @@ reply-addressed traders stocks from r zero to asks =
     record { sender = omega (arith, zero); receiver = to.exists; known = λ e. absurd (omega (arith, e, to.trader)); asks = asks; extra = omega arith }
 
 -- the exchange's replies
-pub replies-posted : (traders stocks : ℕ) (m : Message) (rs : List Outgoing) → m.to ≡ 0 → All (IsToTrader traders) rs → All (λ r. IsAskable stocks r.body) rs → length rs ≤ 2000002 → ArePosted traders stocks m (map to_receiver rs)
+pub replies-posted : (traders stocks : ℕ) (m : Message) (rs : List Outgoing) → m.to ≡ 0 → All (IsToTrader traders) rs → All (λ r. IsAskable stocks r.body) rs → length rs ≤ most_posted → ArePosted traders stocks m (map to_receiver rs)
 replies-posted traders stocks m rs zero to asks few = record {
   addressed = All-map (λ x. IsAddressed traders stocks m.to x) to_receiver rs (λ k d lt. reply-addressed traders stocks m.to _ zero (to k d lt) (asks k d lt));
   ahead = All-map (λ x. m.time ≤ earliest_of m.time x) to_receiver rs (λ k d lt. omega arith);

@@ -102,8 +102,12 @@ pub record IsTold (r : Reaction) (h : Happening) : Type 0 where
   pub feed : h.after.list ≡ r.feed
   pub fee : h.fee ≡ r.fee
 
+-- how many messages one event posts at most: two for each of a million matches, and two more
+abbrev pub most_posted : ℕ
+most_posted = 2000002
+
 -- What the receiver of a message posts: each to an agent that there is, none earlier than the message, and not too many.
 pub record ArePosted (traders stocks : ℕ) (m : Message) (xs : List Posting) : Type 0 where
   pub addressed : All (λ (x : Posting). IsAddressed traders stocks m.to x) xs
   pub ahead : All (λ (x : Posting). m.time ≤ earliest_of m.time x) xs
-  pub few : length xs ≤ 2000002
+  pub few : length xs ≤ most_posted

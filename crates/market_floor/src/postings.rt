@@ -1,23 +1,23 @@
 //! What the receiver of a message gives to the mail.
 
-ghost use Rattle.std.specs.Prelude.{◌≡◌, ◌<◌, ◌≤◌, ◌+◌, ◌^◌, ℕ, [], pos, All, IfOk, OnOk, OnErr, length, map, option_map, slice_get};
+ghost use Rattle.std.specs.Prelude.{◌≡◌, ◌<◌, ◌≤◌, ◌+◌, ◌++◌, ◌^◌, ℕ, [], pos, All, IfOk, OnOk, OnErr, length, map};
 ghost use Rattle.agent_shell.specs.Bounds.{AreSendings, IsAfter};
 ghost use Rattle.agent_shell.specs.Sight.{sight_of};
 ghost use Rattle.exchange_agent.specs.Market.{IsAskable, market};
 ghost use Rattle.exchange_agent.specs.Outcome.{IsToTrader};
 ghost use Rattle.market_floor.specs.Party.{reacted, with_trader};
-ghost use Rattle.market_floor.specs.Posted.{posting_of, to_exchange, to_receiver};
+ghost use Rattle.market_floor.specs.Posted.{to_exchange, to_receiver};
 
-use crate::{Party, Posting, PostingSeen};
+use crate::Party;
 use agent_shell::{Sending, Sends};
-use exchange_agent::{Exchange, Handled};
+use exchange_agent::{Exchange, Handled, Outgoing};
 use market_rules::View;
 use market_types::{Body, FeedList, Memory, Message, Time};
 use std::alloc::Global;
 use std::marker::Model;
 use std::mem::swap;
 
-/// What is given to the mail, in its order: the exchange's replies, or what a trader sends. It is read one by one and
+/// What is given to the mail, in its order: the exchange's replies, or what a trader sends. It is read where it stands and
 /// takes no memory. Its lists are filled again with each message, one of them at a time.
 #[derive(Drop)]
 pub struct Postings {
@@ -26,15 +26,13 @@ pub struct Postings {
 }
 
 impl Model for Postings {
-    ghost use Rattle.std.specs.Prelude.{◌≡◌, ◌<◌, List, [], length};
+    ghost use Rattle.std.specs.Prelude.{List};
     ghost use Rattle.market_floor.specs.declared.posting.Posting.{Posting};
     ghost use Rattle.market_floor.specs.Posted.{postings_of};
 
     ghost Value = { List Posting };
 
     ghost view = { λ p. postings_of p.answer p.sends };
-
-    ghost invariant = { λ p. 0 < length p.answer.replies.list → p.sends.list ≡ [] };
 }
 
 /// What happened when a message was delivered. It is filled again with each message, and keeps the memory of its
@@ -68,40 +66,6 @@ impl Happening {
     }
 }
 
-// A reply goes to its receiver. It is the one at a place, from 0.
-fn reply_seen(answer: &Handled, i: usize) -> Option<PostingSeen<'_>>
-    ensures { option_map posting_of result ≡ slice_get (map to_receiver answer.now.replies.list) i }
-{
-    match answer.get(i) {
-        Some((to, body)) => Some(PostingSeen::To { to, body, extra: 0 }),
-        None => None,
-    }
-}
-
-// What a trader sends goes to the exchange.
-fn to_exchange(sending: &Sending) -> PostingSeen<'_>
-    ensures { posting_of result ≡ to_exchange sending.now }
-{
-    match sending {
-        Sending::To { body, extra } => PostingSeen::To {
-            to: 0,
-            body,
-            extra: *extra,
-        },
-        Sending::WakeAt(time) => PostingSeen::WakeAt(*time),
-    }
-}
-
-// What a trader sends, at a place from 0.
-fn sending_seen(sends: &Sends, i: usize) -> Option<PostingSeen<'_>>
-    ensures { option_map posting_of result ≡ slice_get (map to_exchange sends.now.list) i }
-{
-    match sends.get(i) {
-        Some(sending) => Some(to_exchange(sending)),
-        None => None,
-    }
-}
-
 impl Postings {
     // None so far.
     pub(crate) fn new(alloc: Global) -> Postings
@@ -113,38 +77,11 @@ impl Postings {
         }
     }
 
-    /// How many there are.
-    pub fn len(&self) -> usize
-        ensures { result ≡ length self.now }
+    /// The exchange's replies, and behind them what a trader sends to the exchange.
+    pub fn lists(&self) -> (&[Outgoing], &[Sending])
+        ensures whole { self.now ≡ map to_receiver result.0.now ++ map to_exchange result.1.now }
     {
-        match self.answer.len() {
-            0 => self.sends.len(),
-            replies => replies,
-        }
-    }
-
-    /// The one at a place, from 0. `None` exactly where there are not so many.
-    pub fn get(&self, i: usize) -> Option<Posting>
-        ensures { result ≡ slice_get self.now i }
-    {
-        match self.seen(i)? {
-            PostingSeen::To { to, body, extra } => Some(Posting::To {
-                to,
-                body: *body,
-                extra,
-            }),
-            PostingSeen::WakeAt(time) => Some(Posting::WakeAt(time)),
-        }
-    }
-
-    /// The one at a place, from 0, whose message stays where it is. `None` exactly where there are not so many.
-    pub fn seen(&self, i: usize) -> Option<PostingSeen<'_>>
-        ensures { option_map posting_of result ≡ slice_get self.now i }
-    {
-        match reply_seen(&self.answer, i) {
-            Some(reply) => Some(reply),
-            None => sending_seen(&self.sends, i - self.answer.len()),
-        }
+        (self.answer.replies(), self.sends.as_slice())
     }
 
     // The exchange's answer to a message takes the place of what was. Its feed is told apart, and the sum of fees

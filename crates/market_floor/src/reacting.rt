@@ -1,7 +1,8 @@
 //! What the receiver of a message does.
 
-ghost use Rattle.std.specs.Prelude.{◌≡◌, ◌<◌, ◌≤◌, ◌+◌, ℕ, [], All, OnOk, OnErr, length};
+ghost use Rattle.std.specs.Prelude.{◌≡◌, ◌<◌, ◌≤◌, ◌+◌, ℕ, [], All, OnOk, OnErr, length, nat_lt};
 ghost use Rattle.agent_shell.specs.Sight.{sight_of};
+ghost use Rattle.market_rules.specs.Changes.{dated_by};
 ghost use Rattle.exchange_agent.specs.Market.{market};
 ghost use Rattle.exchange_agent.specs.State.{Stock};
 ghost use Rattle.market_floor.specs.Party.{with_trader};
@@ -173,8 +174,9 @@ fn react(
 
 impl Floor {
     /// Delivers a message: the dated changes that are due at its time are made, where the first so many were made
-    /// before, and then its receiver does what it does with it. A silenced trader takes replies, and does nothing with
-    /// a wakeup or a quote. What happened takes the place of all that `out` told.
+    /// before, and then its receiver does what it does with it. The caller says whether a change is due. A silenced
+    /// trader takes replies, and does nothing with a wakeup or a quote. What happened takes the place of all that `out`
+    /// told.
     ///
     /// # Errors
     /// Want of memory alone. The floor is then as it was, and `out` tells nothing that counts.
@@ -183,6 +185,7 @@ impl Floor {
         alloc: Global,
         o: &Opening,
         applied: usize,
+        is_due: bool,
         m: &Message,
         out: &mut Happening,
     ) -> Result<(), Memory>
@@ -191,6 +194,7 @@ impl Floor {
         requires among { IsAmong (length self.old.parties) (length self.old.exchange.stocks) m.now }
         requires start { o.now.start ≤ m.now.time }
         requires close { m.now.time ≤ o.now.close }
+        requires due { is_due ≡ nat_lt applied (dated_by o.now.dated m.now.time) }
         ensures floor { OnOk result (self.new ≡ (reaction o.now (ruled o.now applied m.now.time self.old).floor m.now).floor) }
         ensures before { OnOk result (out.new.before.list ≡ (ruled o.now applied m.now.time self.old).feed) }
         ensures told { OnOk result (IsTold (reaction o.now (ruled o.now applied m.now.time self.old).floor m.now) out.new) }
@@ -204,7 +208,7 @@ impl Floor {
         ensures refused { OnErr result (self.new ≡ self.old) }
     {
         out.before.clear();
-        if o.dated.is_due(applied, m.time) {
+        if is_due {
             return self.deliver_changed(alloc, o, applied, m, out);
         }
         let offsets = self.offsets.as_slice();

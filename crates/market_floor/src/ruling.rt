@@ -1,6 +1,7 @@
 //! Dated changes of the stocks' rules.
 
-ghost use Rattle.std.specs.Prelude.{◌≡◌, ◌<◌, ◌≤◌, ◌++◌, ℕ, All, IfOk, OnOk, OnErr, length};
+ghost use Rattle.std.specs.Prelude.{◌≡◌, ◌<◌, ◌≤◌, ◌++◌, ℕ, All, IfOk, OnOk, OnErr, length, nat_lt};
+ghost use Rattle.market_rules.specs.Changes.{dated_by};
 ghost use Rattle.market_floor.specs.Floor.{with_exchange};
 ghost use Rattle.market_floor.specs.Ruled.{all_changed, applied_by, due, ruled};
 ghost use Rattle.market_floor.specs.Sound.{FitsFloor, IsSoundFloor};
@@ -14,13 +15,15 @@ use market_rules::laws::first_changes_are_due;
 use market_types::{FeedList, Memory, Time};
 use std::alloc::Global;
 
-/// How many dated changes are made once those are that are due at a time, where so many were made before.
-pub fn applied_by(o: &Opening, applied: usize, time: Time) -> usize
+/// How many dated changes are made once those are that are due at a time, where so many were made before. The caller says
+/// whether one is due.
+pub fn applied_by(o: &Opening, applied: usize, is_due: bool, time: Time) -> usize
+    requires due { is_due ≡ nat_lt applied (dated_by o.now.dated time) }
     ensures value { result ≡ applied_by o.now applied time }
     ensures more { applied ≤ result }
     ensures within { applied ≤ length o.now.dated → result ≤ length o.now.dated }
 {
-    if o.dated.is_due(applied, time) {
+    if is_due {
         o.dated.rules_at(time)
     } else {
         applied

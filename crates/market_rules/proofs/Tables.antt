@@ -11,7 +11,7 @@ use Rattle.market_rules.specs.declared.bands.Band.{Band}
 use Rattle.market_rules.specs.declared.error.RuleError.{RuleError}
 use Rattle.market_rules.specs.declared.error.RuleError.TheVariants.{BandsNotRising, ZeroTick, BandOffTick}
 use Rattle.market_rules.specs.Nearest.{IsGreatest, IsLeast, greatest_allowed, allowed_among, least_allowed}
-use Rattle.market_rules.specs.Refusals.{first_of, not_rising, zero_tick, off_tick, table_refusal}
+use Rattle.market_rules.specs.Refusals.{earlier_refusal, not_rising, zero_tick, off_tick, table_refusal}
 use Rattle.market_rules.specs.Ticks.{tick_of, is_allowed}
 use Rattle.market_rules.proofs.Breaking.{first_break_never}
 
@@ -58,7 +58,7 @@ pub record IsTable (bs : List Band) (d : Band) : Type 0 where
   pub multiples : (k : ℕ) → k < length bs → (get_or bs k d).from % (get_or bs k d).tick ≡ 0
   pub rising : (k : ℕ) → suc k < length bs → (get_or bs k d).from < (get_or bs (suc k) d).from
 
-neither : (x y : Option RuleError) → first_of x y ≡ None → (x ≡ None) × (y ≡ None)
+neither : (x y : Option RuleError) → earlier_refusal x y ≡ None → (x ≡ None) × (y ≡ None)
 neither None y e = (refl, e)
 neither (Some x) y e = cc
 
@@ -85,7 +85,7 @@ true_of_not false e = cc
 pub table : (bs : List Band) (d : Band) → table_refusal bs ≡ None → IsTable bs d
 table [] d e = cc
 table (b ∷ bs) d e =
-    let x = neither (option_map BandsNotRising (not_rising (b ∷ bs))) (first_of (option_map ZeroTick (zero_tick (b ∷ bs))) (option_map BandOffTick (off_tick (b ∷ bs)))) e in
+    let x = neither (option_map BandsNotRising (not_rising (b ∷ bs))) (earlier_refusal (option_map ZeroTick (zero_tick (b ∷ bs))) (option_map BandOffTick (off_tick (b ∷ bs)))) e in
     let y = neither (option_map ZeroTick (zero_tick (b ∷ bs))) (option_map BandOffTick (off_tick (b ∷ bs))) x.1 in
     let r = unmapped BandsNotRising (not_rising (b ∷ bs)) x.0 in
     let z = unmapped ZeroTick (zero_tick (b ∷ bs)) y.0 in

@@ -6,9 +6,9 @@ use Rattle.market_rules.specs.declared.error.RuleError.TheVariants.{BandsNotRisi
 use Rattle.market_rules.specs.Breaks.{first_break}
 
 -- the first refusal that there is
-abbrev pub first_of : Option RuleError → Option RuleError → Option RuleError
-first_of (Some e) others = Some e
-first_of None others = others
+abbrev pub earlier_refusal : Option RuleError → Option RuleError → Option RuleError
+earlier_refusal (Some e) others = Some e
+earlier_refusal None others = others
 
 -- the first band that doesn't start above the one before it, and 0 where there is no band
 abbrev pub not_rising : List Band → Option ℕ
@@ -26,5 +26,5 @@ off_tick (b ∷ bs) = if b.from == 0 then position (λ (x : Band). not (x.from %
 
 -- why these bands are no tick table
 abbrev pub table_refusal : List Band → Option RuleError
-table_refusal bands = first_of (option_map BandsNotRising (not_rising bands))
-    (first_of (option_map ZeroTick (zero_tick bands)) (option_map BandOffTick (off_tick bands)))
+table_refusal bands = earlier_refusal (option_map BandsNotRising (not_rising bands))
+    (earlier_refusal (option_map ZeroTick (zero_tick bands)) (option_map BandOffTick (off_tick bands)))

@@ -1,15 +1,17 @@
 -- Bytes compared in their order as numbers of eight, the first byte the highest.
-use Rattle.std.proofs.Common.{◌≡◌, ℕ, zero, suc, ◌+◌, ◌*◌, ◌<◌, ◌≤◌, List, [], ◌∷◌, length, get_or, take, drop, refl, sym, ap, ◌∙◌, inl, inr, arith}
+use Rattle.std.proofs.Common.{◌≡◌, ℕ, zero, suc, ◌+◌, ◌*◌, ◌<◌, ◌≤◌, eqb, ◌&&◌, List, [], ◌∷◌, length, get_or, take, drop, refl, sym, ap, ◌∙◌, inl, inr, arith}
 use Rattle.std.proofs.lemmas.Bool.{cases_lt}
+use Rattle.std.specs.Prelude.{bytes_eq}
+use Rattle.std.proofs.lemmas.Bool.Decides.{nat_tests}
+use Rattle.std.proofs.lemmas.Map.Text.{is_eq-slice_cmp}
 use Rattle.std.proofs.lemmas.Cmp.{ranked, by_ranked}
 use Rattle.std.proofs.lemmas.List.{length-take, length-drop, get_or-drop, get_or-take, get_or_past}
 use Rattle.std.specs.Cmp.{nat_cmp_is}
 use Rattle.std.specs.Int.{w64, from_be_bytes}
-use Rattle.std.specs.Ordering.{nat_cmp, ordering_then}
+use Rattle.std.specs.Ordering.{is_eq, nat_cmp, ordering_then}
 use Rattle.std.specs.Cmp.Lexicographic.{slice_cmp}
 use Rattle.std.specs.declared.cmp.Ordering.{Ordering}
 use Rattle.std.specs.declared.cmp.Ordering.TheVariants.{Less, Equal, Greater}
-use Rattle.price_time_book.specs.Index.{by_ends}
 
 -- the number that goes on from another with these bytes
 abbrev onward : ℕ → List ℕ → ℕ
@@ -107,8 +109,26 @@ pub fourteen_cmp : (xs ys : List ℕ) → length xs ≡ 14 → length ys ≡ 14 
 fourteen_cmp xs ys k l p q =
     (λ i. ordering_then (first_eight xs ys k l p q i) (last_eight xs ys k l p q i)) ∙ both_ends 6 8 (omega arith) xs ys
 
--- and the other way round
-pub ends_cmp : (xs ys : List ℕ) → length xs ≡ 14 → length ys ≡ 14 → ((i : ℕ) → get_or xs i 0 < 256) → ((i : ℕ) → get_or ys i 0 < 256)
-    → ordering_then (nat_cmp (from_be_bytes w64 (drop 6 xs)) (from_be_bytes w64 (drop 6 ys))) (nat_cmp (from_be_bytes w64 (take 8 xs)) (from_be_bytes w64 (take 8 ys)))
-    ≡ by_ends xs ys
-ends_cmp xs ys k l p q = λ i. ordering_then (last_eight xs ys k l p q i) (first_eight xs ys k l p q i)
+eq-cmp : (a b : ℕ) → eqb a b ≡ is_eq (nat_cmp a b)
+eq-cmp a b = grind (arith, nat_tests)
+
+both_eq : (o p : Ordering) → (is_eq o && is_eq p) ≡ is_eq (ordering_then p o)
+both_eq Less Less = refl
+both_eq Less Equal = refl
+both_eq Less Greater = refl
+both_eq Equal Less = refl
+both_eq Equal Equal = refl
+both_eq Equal Greater = refl
+both_eq Greater Less = refl
+both_eq Greater Equal = refl
+both_eq Greater Greater = refl
+
+-- fourteen bytes are the same where their last eight and their first eight are
+pub fourteen_same : (xs ys : List ℕ) → length xs ≡ 14 → length ys ≡ 14 → ((i : ℕ) → get_or xs i 0 < 256) → ((i : ℕ) → get_or ys i 0 < 256)
+    → (eqb (from_be_bytes w64 (drop 6 xs)) (from_be_bytes w64 (drop 6 ys)) && eqb (from_be_bytes w64 (take 8 xs)) (from_be_bytes w64 (take 8 ys)))
+    ≡ bytes_eq xs ys
+fourteen_same xs ys k l p q =
+    (λ i. eq-cmp (from_be_bytes w64 (drop 6 xs)) (from_be_bytes w64 (drop 6 ys)) i && eq-cmp (from_be_bytes w64 (take 8 xs)) (from_be_bytes w64 (take 8 ys)) i)
+    ∙ both_eq (nat_cmp (from_be_bytes w64 (drop 6 xs)) (from_be_bytes w64 (drop 6 ys))) (nat_cmp (from_be_bytes w64 (take 8 xs)) (from_be_bytes w64 (take 8 ys)))
+    ∙ ap is_eq (fourteen_cmp xs ys k l p q)
+    ∙ is_eq-slice_cmp xs ys

@@ -1,28 +1,21 @@
 -- Lemmas on sorted indexes of the vector of arrival.
-use Rattle.std.proofs.Common.{◌≡◌, ◌≢◌, ℕ, ◌+◌, ◌-◌, ◌<◌, ◌≤◌, Bool, true, false, cond, ◌&&◌, eqb, ltb, List, [], ◌∷◌, ◌++◌, Some, None, drop, length, take, get_or, set, refl, sym, ap, ◌∙◌, arith, inl, inr, suc, zero, subst, All, find}
+use Rattle.std.proofs.Common.{◌≡◌, ◌≢◌, ℕ, ◌+◌, ◌-◌, ◌<◌, ◌≤◌, Bool, true, false, cond, eqb, ltb, List, [], ◌∷◌, ◌++◌, Some, None, length, get_or, set, refl, sym, ap, ◌∙◌, arith, inl, inr, suc, zero, subst, All, find}
 use Rattle.std.specs.Cmp.{IsTotalOrder}
-use Rattle.std.proofs.lemmas.Cmp.{nat_cmp_total, on_total, then_total}
+use Rattle.std.proofs.lemmas.Cmp.{nat_cmp_total}
 use Rattle.std.specs.List.{insert}
 use Rattle.std.specs.List.Sorted.{IsPartitionPoint}
-use Rattle.std.specs.Cmp.Lexicographic.{nat_list_cmp_total, slice_cmp}
-use Rattle.std.specs.Ordering.{is_eq, is_lt, nat_cmp, ordering_reverse, ordering_then}
+use Rattle.std.specs.Ordering.{is_lt, nat_cmp, ordering_reverse}
 use Rattle.std.specs.declared.cmp.Ordering.{Ordering}
 use Rattle.std.specs.declared.cmp.Ordering.TheVariants.{Less, Equal, Greater}
-use Rattle.std.specs.Prelude.{bytes_eq}
 use Rattle.std.proofs.lemmas.Bool.Decides.{nat_tests}
-use Rattle.std.proofs.lemmas.Map.Text.{is_eq-slice_cmp}
 use Rattle.std.proofs.lemmas.Bool.{cases_Bool, cases_eq, cases_lt, eq-eqb, ne_eqb}
 use Rattle.std.proofs.lemmas.List.{length-set, length_push, get_or_append_left, get_or_push, get_or-set_same, get_or-set_other}
 use Rattle.std.proofs.lemmas.List.Edits.{length-insert, get_or-insert_below, get_or-insert_at, get_or-insert_above}
 use Rattle.price_time_book.specs.declared.resting.Resting.{Resting}
 use Rattle.price_time_book.specs.declared.index.ReferenceEntry.{ReferenceEntry}
-use Rattle.price_time_book.specs.declared.index.TokenEntry.{TokenEntry}
-use Rattle.price_time_book.specs.Index.{AreLessened, IsByReference, IsByToken, IsIndex, IsLessened, by_ends, by_pair, pair_at, pair_of}
+use Rattle.price_time_book.specs.Index.{AreLessened, IsByReference, IsIndex, IsLessened}
 use Rattle.price_time_book.specs.Indexed.{nothing, open_orders}
-use Rattle.price_time_book.specs.Orders.{order_of}
-use Rattle.price_time_book.proofs.Bytewise.{both_ends}
 use Rattle.price_time_book.proofs.Lowers.{open_each}
-use Rattle.price_time_book.proofs.Stays.{all_differ}
 use Rattle.std.proofs.lemmas.List.Elements.{recursion_from_All}
 
 -- ---- keys
@@ -76,22 +69,6 @@ pub no_place : {E K : Type 0} (key : E → K) (place : E → ℕ) (cmp : K → K
 no_place key place cmp of os es x d q none k w l f =
     let c = x.covered k w l in
     none c.0 c.1 (ap (λ z. cmp z q) (entry_key key place cmp of os es x c.0 k d c.1 (c.2 d)) ∙ f)
-
--- two open orders do not tie
-pub places_differ : {E K : Type 0} (key : E → K) (place : E → ℕ) (cmp : K → K → Ordering) (of : Resting → K) → IsTotalOrder cmp → (os : List Resting) (es : List E) → IsIndex key place cmp of os es → (d : E) (j k : ℕ) → j < length os → 0 < (get_or os j nothing).left → k < length os → 0 < (get_or os k nothing).left → cmp (of (get_or os j nothing)) (of (get_or os k nothing)) ≡ Equal → j ≡ k
-places_differ {E} {K} key place cmp of t os es x d j k a l b m e =
-    let c = x.covered k b m in
-    let same : key (get_or es c.0 d) ≡ of (get_or os k nothing) = entry_key key place cmp of os es x c.0 k d c.1 (c.2 d) in
-    let itself : cmp (key (get_or es c.0 d)) (of (get_or os k nothing)) ≡ Equal = ap (λ z. cmp z (of (get_or os k nothing))) same ∙ tie t (of (get_or os k nothing)) in
-    only_place key place cmp of t os es x c.0 d (of (get_or os k nothing)) c.1 itself j a l e ∙ c.2 d
-  where
-    self_reverse : (o : Ordering) → o ≡ ordering_reverse o → o ≡ Equal
-    self_reverse Less h = absurd (cc h)
-    self_reverse Equal h = refl
-    self_reverse Greater h = absurd (cc h)
-
-    tie : IsTotalOrder cmp → (z : K) → cmp z z ≡ Equal
-    tie t z = self_reverse (cmp z z) (t.antisymm z z)
 
 -- what a search by halving gives: the entries before a place are less than a key, the one there is not
 pub record IsFrom {E K : Type 0} (key : E → K) (cmp : K → K → Ordering) (es : List E) (q : K) (at : ℕ) : Type 0 where
@@ -347,69 +324,8 @@ reference_ties a b e =
     let t : ltb a b ≡ false = grind (arith, nat_tests) in
     rw (t, e) refl
 
--- ---- agents and tokens
-ends_total : IsTotalOrder by_ends
-ends_total = then_total (on_total (drop 6) nat_list_cmp_total) (on_total (take 8) nat_list_cmp_total)
-
-pub pair_total : IsTotalOrder by_pair
-pair_total = then_total (on_total (λ (p : ℕ × List ℕ). p.1) ends_total) (on_total (λ (p : ℕ × List ℕ). p.0) nat_cmp_total)
-
-equal_is : (o : Ordering) → is_eq o ≡ true → o ≡ Equal
-equal_is Less e = absurd (cc e)
-equal_is Equal e = refl
-equal_is Greater e = absurd (cc e)
-
--- which of two comes first doesn't tell whether both tie
-either_first : (o p : Ordering) → is_eq (ordering_then o p) ≡ is_eq (ordering_then p o)
-either_first Less Less = refl
-either_first Less Equal = refl
-either_first Less Greater = refl
-either_first Equal Less = refl
-either_first Equal Equal = refl
-either_first Equal Greater = refl
-either_first Greater Less = refl
-either_first Greater Equal = refl
-either_first Greater Greater = refl
-
--- tokens tie where their bytes are the same
-ends_tie : (t u : List ℕ) → is_eq (by_ends t u) ≡ bytes_eq t u
-ends_tie t u =
-    either_first (slice_cmp nat_cmp (drop 6 t) (drop 6 u)) (slice_cmp nat_cmp (take 8 t) (take 8 u))
-    ∙ ap is_eq (both_ends 6 8 (omega arith) t u)
-    ∙ is_eq-slice_cmp t u
-
-agents_first : (a b : ℕ) (o : Ordering) (same : Bool) → is_eq o ≡ same → is_eq (ordering_then (nat_cmp a b) o) ≡ (eqb a b && same)
-agents_first a b o same h = elim (cases_eq a b) [
-  | inl s ↦
-      let e : eqb a b ≡ true = eq-eqb a b s in
-      let l : ltb a b ≡ false = grind (arith, nat_tests) in
-      rw (l, e) h
-  | inr n ↦
-      let e : eqb a b ≡ false = ne_eqb a b n in
-      elim (cases_lt a b) [
-        | inl h ↦ (let l : ltb a b ≡ true = grind (arith, nat_tests) in rw (l, e) refl)
-        | inr h ↦ (let l : ltb a b ≡ false = grind (arith, nat_tests) in rw (l, e) refl)
-      ]
-]
-
--- keys tie where agents and tokens are the same
-pub pair_ties : (a b : ℕ) (t u : List ℕ) → is_eq (by_pair (a, t) (b, u)) ≡ (eqb a b && bytes_eq t u)
-pair_ties a b t u = either_first (by_ends t u) (nat_cmp a b) ∙ agents_first a b (by_ends t u) (bytes_eq t u) (ends_tie t u)
-
-pub pair_equal : (a b : ℕ) (t u : List ℕ) → (eqb a b && bytes_eq t u) ≡ true → by_pair (a, t) (b, u) ≡ Equal
-pair_equal a b t u e = equal_is (by_pair (a, t) (b, u)) (pair_ties a b t u ∙ e)
-
-pub equal_pair : (a b : ℕ) (t u : List ℕ) → by_pair (a, t) (b, u) ≡ Equal → (eqb a b && bytes_eq t u) ≡ true
-equal_pair a b t u e = sym (pair_ties a b t u) ∙ ap is_eq e
-
 pub references_lessened : (os new : List Resting) (es : List ReferenceEntry) → AreLessened os new → IsByReference os es → IsByReference new es
 references_lessened os new es = index_lessened (λ (e : ReferenceEntry). e.reference) (λ (e : ReferenceEntry). e.place) nat_cmp (λ (o : Resting). o.reference) (λ o x l. l.reference) os new es
-
-pub tokens_lessened : (os new : List Resting) (es : List TokenEntry) → AreLessened os new → IsByToken os es → IsByToken new es
-tokens_lessened os new es = index_lessened pair_at (λ (e : TokenEntry). e.place) by_pair pair_of (λ o x l. both o x l) os new es
-  where
-    both : (o x : Resting) → IsLessened o x → pair_of x ≡ pair_of o
-    both o x l = λ i. (l.agent i, (l.token i).0)
 
 -- ---- searches by a key
 -- what a test of open orders says of one index
@@ -437,22 +353,9 @@ agrees_reference reference = record {
   passes = λ o e. eq-eqb o.reference reference (equal_reference o.reference reference e);
 }
 
-pub agrees_token : (agent : ℕ) (token : List ℕ) → AgreesWith by_pair pair_of (agent, token) (λ (o : Resting). eqb o.agent agent && bytes_eq o.token.0 token)
-agrees_token agent token = record {
-  ties = λ o e. pair_equal o.agent agent o.token.0 token e;
-  passes = λ o e. equal_pair o.agent agent o.token.0 token e;
-}
-
 -- ---- no open order has the key of one that comes
 pub fresh_reference : (os : List Resting) (x : Resting) → All (λ (o : Resting). o.reference < x.reference) (open_orders os) → (k : ℕ) → k < length os → 0 < (get_or os k nothing).left → nat_cmp (get_or os k nothing).reference x.reference ≢ Equal
 fresh_reference os x a k w l e =
     let less : (get_or os k nothing).reference < x.reference = open_each (λ (o : Resting). o.reference < x.reference) os k w l (recursion_from_All (λ (o : Resting). o.reference < x.reference) (open_orders os) a) in
     let same : (get_or os k nothing).reference ≡ x.reference = equal_reference (get_or os k nothing).reference x.reference e in
     omega arith
-
-pub fresh_token : (os : List Resting) (x : Resting) → order_of x.agent x.token (open_orders os) ≡ None → (k : ℕ) → k < length os → 0 < (get_or os k nothing).left → by_pair (pair_of (get_or os k nothing)) (pair_of x) ≢ Equal
-fresh_token os x a k w l e =
-    let p = λ (o : Resting). eqb o.agent x.agent && bytes_eq o.token.0 x.token.0 in
-    let none : p (get_or os k nothing) ≡ false = open_each (λ (o : Resting). p o ≡ false) os k w l (recursion_from_All (λ (o : Resting). p o ≡ false) (open_orders os) (all_differ p (open_orders os) a)) in
-    let some : p (get_or os k nothing) ≡ true = equal_pair (get_or os k nothing).agent x.agent (get_or os k nothing).token.0 x.token.0 e in
-    absurd (cc (none, some))

@@ -1,3 +1,4 @@
+pub mod Befores
 pub mod Bests
 pub mod Bytewise
 pub mod Changes

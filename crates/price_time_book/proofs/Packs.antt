@@ -1,17 +1,14 @@
 -- Lemmas on a book that is made anew from its open orders.
-use Rattle.std.proofs.Common.{◌≡◌, ◌≢◌, ℕ, ◌<◌, ◌≤◌, true, false, cond, ◌&&◌, eqb, List, [], ◌∷◌, ◌++◌, length, get_or, take, drop, refl, ap, arith, suc, zero, subst, length-append}
-use Rattle.std.specs.Prelude.{bytes_eq}
+use Rattle.std.proofs.Common.{◌≡◌, ◌≢◌, ℕ, ◌<◌, ◌≤◌, true, false, cond, eqb, List, [], ◌∷◌, ◌++◌, length, get_or, take, drop, refl, ap, arith, suc, zero, subst, length-append}
 use Rattle.std.specs.List.{AllByRecursion}
 use Rattle.std.proofs.lemmas.Bool.{eq-eqb, ne_eqb}
 use Rattle.std.proofs.lemmas.List.Elements.{All-from_recursion}
-use Rattle.std.specs.declared.cmp.Ordering.TheVariants.{Equal}
-use Rattle.price_time_book.specs.declared.index.TokenEntry.{TokenEntry}
 use Rattle.price_time_book.specs.declared.resting.Resting.{Resting}
 use Rattle.price_time_book.specs.Awaited.{AreAwaited}
-use Rattle.price_time_book.specs.Index.{IsByToken, by_pair, pair_at, pair_of}
+use Rattle.price_time_book.specs.Chains.{IsChained, is_sent}
 use Rattle.price_time_book.specs.Indexed.{nothing, open_orders}
 use Rattle.price_time_book.specs.Orderly.{IsOrderly, IsRising}
-use Rattle.price_time_book.proofs.Indexes.{find_nobody, pair_equal, pair_total, places_differ}
+use Rattle.price_time_book.proofs.Indexes.{find_nobody}
 use Rattle.price_time_book.proofs.Lowers.{open_each}
 
 -- the open orders are those before a place, the one there and those after it
@@ -56,25 +53,23 @@ length_le-take os zero = (omega arith, omega arith)
 length_le-take [] (suc i) = (omega arith, omega arith)
 length_le-take (o ∷ os) (suc i) = let r = length_le-take os i in (omega (arith, r.0), omega (arith, r.1))
 
-pub awaited : (os : List Resting) (es : List TokenEntry) → IsByToken os es → IsOrderly (open_orders os) → AreAwaited os
-awaited os es x h i within n =
+pub awaited : (os : List Resting) (lasts befores : List ℕ) → IsChained os lasts befores → IsOrderly (open_orders os) → AreAwaited os
+awaited os lasts befores x h i within n =
     let o = get_or os i nothing in
     let live : 0 < o.left = omega (arith, n) in
     let split = open-split os i within n in
     let later = before_rising (open_orders (take i os)) (open_orders (drop (suc i) os)) o (subst IsRising split h.rising) in
-    let d : TokenEntry = record { agent = 0; token = record { 0 = [] }; place = 0 } in
     record {
       few = omega (arith, ap (λ (w : List Resting). length w) split, length-append (open_orders (take i os)) (o ∷ open_orders (drop (suc i) os)));
       shares = live;
       intended = open_each (λ (y : Resting). y.left ≤ y.intended) os i within live h.within;
       later = All-from_recursion (λ (y : Resting). y.reference < o.reference) (open_orders (take i os)) later;
-      fresh = find_nobody (λ (y : Resting). eqb y.agent o.agent && bytes_eq y.token.0 o.token.0) (take i os) (λ k b l e.
+      fresh = find_nobody (is_sent o.agent o.token.0) (take i os) (λ k b l e.
           let long = length_le-take os i in
           let less : k < i = omega (arith, long.0, b) in
           let same : get_or (take i os) k nothing ≡ get_or os k nothing = get-take os i k less in
           let open_there : 0 < (get_or os k nothing).left = subst (λ (y : Resting). 0 < y.left) same l in
-          let tied : (eqb (get_or os k nothing).agent o.agent && bytes_eq (get_or os k nothing).token.0 o.token.0) ≡ true = subst (λ (y : Resting). (eqb y.agent o.agent && bytes_eq y.token.0 o.token.0) ≡ true) same e in
-          let equal : by_pair (pair_of (get_or os k nothing)) (pair_of o) ≡ Equal = pair_equal (get_or os k nothing).agent o.agent (get_or os k nothing).token.0 o.token.0 tied in
-          let one : k ≡ i = places_differ pair_at (λ (y : TokenEntry). y.place) by_pair pair_of pair_total os es x d k i (omega arith) open_there within live equal in
+          let sent : is_sent o.agent o.token.0 (get_or os k nothing) ≡ true = subst (λ (y : Resting). is_sent o.agent o.token.0 y ≡ true) same e in
+          let gone : (get_or os k nothing).left ≡ 0 = x.once k i less within sent in
           omega arith);
     }

@@ -6,7 +6,7 @@ use Rattle.price_time_book.specs.declared.levels.Queue.{Queue}
 use Rattle.price_time_book.specs.declared.lowering.First.{First}
 use Rattle.price_time_book.specs.declared.resting.Resting.{Resting}
 use Rattle.price_time_book.specs.Indexed.{IsIndexed}
-use Rattle.price_time_book.specs.Queues.{better_of, first_of, hidden_of, queue_of, shown_of, top_in}
+use Rattle.price_time_book.specs.Queues.{better_of, first_on, hidden_of, queue_of, shown_of, top_in}
 use Rattle.price_time_book.proofs.Tops.{first_is}
 use Rattle.price_time_book.specs.declared.levels.Level.{Level}
 
@@ -27,7 +27,7 @@ pub from_either : (P : First → Type 0) (r : Option First) → IfSome r (λ f. 
 from_either P None h k = tt
 from_either P (Some f) h k = elim (cases_Bool f.shown) [ inl e ↦ h e | inr e ↦ k e ]
 
-pub first_by_queues : (s : Side) (w : List Resting) (a b first : Option Resting) → top_in (shown_of s) w ≡ a → top_in (hidden_of s) w ≡ b → first ≡ better_of s a b → first_of s w ≡ first
+pub first_by_queues : (s : Side) (w : List Resting) (a b first : Option Resting) → top_in (shown_of s) w ≡ a → top_in (hidden_of s) w ≡ b → first ≡ better_of s a b → first_on s w ≡ first
 first_by_queues s w a b first e f g = first_is s w ∙ ap (λ (o : Option Resting). better_of s o (top_in (hidden_of s) w)) e ∙ ap (better_of s a) f ∙ sym g
 
 -- ---- an order's queue by its side and whether it is shown

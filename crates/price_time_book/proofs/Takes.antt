@@ -15,7 +15,7 @@ use Rattle.std.specs.Option.{option_map_or}
 use Rattle.std.proofs.lemmas.List.Elements.{recursion_from_All}
 use Rattle.price_time_book.specs.declared.resting.Best.{Best}
 use Rattle.price_time_book.specs.Next.{crosses, crossing_of, next_of}
-use Rattle.price_time_book.specs.Queues.{best_in, better_of, first_of, hidden_of, queue_of, shares_in, shown_of, top_in}
+use Rattle.price_time_book.specs.Queues.{best_in, better_of, first_on, hidden_of, queue_of, shares_in, shown_of, top_in}
 use Rattle.price_time_book.proofs.Bests.{none_crosses}
 use Rattle.price_time_book.specs.Orderly.{IsOrderly}
 use Rattle.price_time_book.specs.Orders.{changed, order_with}
@@ -29,13 +29,13 @@ use Rattle.price_time_book.proofs.Stays.{each-changed}
 use Rattle.price_time_book.proofs.Tops.{first_is, next-beyond, next-none, next-within}
 
 -- the next order is the first of the other side, if the limit allows
-pub next_is : (side mine : Side) (limit : ℕ) (w : List Resting) (o : Resting) → mine ≡ opposite_of side → first_of mine w ≡ Some o → is_within side limit o.price ≡ true → next_of w side limit ≡ Some o
+pub next_is : (side mine : Side) (limit : ℕ) (w : List Resting) (o : Resting) → mine ≡ opposite_of side → first_on mine w ≡ Some o → is_within side limit o.price ≡ true → next_of w side limit ≡ Some o
 next_is side mine limit w o s top h = next-within side mine limit w w w (Some (0, o)) 0 o refl refl s (sym top) refl h
 
-pub next_none : (side mine : Side) (limit : ℕ) (w : List Resting) → mine ≡ opposite_of side → first_of mine w ≡ None → next_of w side limit ≡ None
+pub next_none : (side mine : Side) (limit : ℕ) (w : List Resting) → mine ≡ opposite_of side → first_on mine w ≡ None → next_of w side limit ≡ None
 next_none side mine limit w s top = next-none side mine limit w w w None refl refl s (sym top) refl
 
-pub next_beyond : (side mine : Side) (limit : ℕ) (w : List Resting) (o : Resting) → mine ≡ opposite_of side → first_of mine w ≡ Some o → is_within side limit o.price ≡ false → next_of w side limit ≡ None
+pub next_beyond : (side mine : Side) (limit : ℕ) (w : List Resting) (o : Resting) → mine ≡ opposite_of side → first_on mine w ≡ Some o → is_within side limit o.price ≡ false → next_of w side limit ≡ None
 next_beyond side mine limit w o s top h = next-beyond side mine limit w w w (Some (0, o)) 0 o refl refl s (sym top) refl h
 
 -- what a change of the order o at place i leaves
@@ -102,8 +102,8 @@ levels_fit q os nx ls x small few = λ k d h. omega (arith, (x.right k d h).shar
 pub placed_seen : (mine : Queue) (s w : List Resting) (t v : List Level) (at i : ℕ) → s ≡ w → t ≡ v → ((d : Level) → IsOpenAt s (key mine (get_or t at d).price) i) → (d : Level) → IsOpenAt w (key mine (get_or v at d).price) i
 placed_seen mine s w t v at i e f h d = subst (λ (u : List Resting). IsOpenAt u (key mine (get_or v at d).price) i) e (subst (λ (u : List Level). IsOpenAt s (key mine (get_or u at d).price) i) f (h d))
 
-pub top_seen : (mine : Side) (s w : List Resting) (i : ℕ) (o : Resting) → s ≡ w → o ≡ get_or w i nothing → first_of mine (open_orders s) ≡ Some (get_or s i nothing) → first_of mine (open_orders w) ≡ Some o
-top_seen mine s w i o e same h = subst (λ (u : List Resting). first_of mine (open_orders u) ≡ Some (get_or u i nothing)) e h ∙ ap (λ (q : Resting). Some q) (sym same)
+pub top_seen : (mine : Side) (s w : List Resting) (i : ℕ) (o : Resting) → s ≡ w → o ≡ get_or w i nothing → first_on mine (open_orders s) ≡ Some (get_or s i nothing) → first_on mine (open_orders w) ≡ Some o
+top_seen mine s w i o e same h = subst (λ (u : List Resting). first_on mine (open_orders u) ≡ Some (get_or u i nothing)) e h ∙ ap (λ (q : Resting). Some q) (sym same)
 
 abbrev pub no_level : Level
 no_level = record { price = 0; first = 0; last = 0; shares = 0 }
@@ -170,7 +170,7 @@ none_cross side limit w h k = none_counted (crosses side limit) w (recursion_fro
     beyond : (q : Queue) (o : Resting) → top_in q w ≡ Some o → is_met_by side limit (best_in q w) ≡ false → is_within side limit o.price ≡ false
     beyond q o e h = sym (ap (λ (t : Option Resting). is_met_by side limit (option_map (λ (y : Resting). let b : Best = record { price = y.price; shares = shares_in q y.price w } in b) t)) e) ∙ h
 
-    first : (a b : Option Resting) → top_in (shown_of other) w ≡ a → top_in (hidden_of other) w ≡ b → first_of other w ≡ better_of other a b
+    first : (a b : Option Resting) → top_in (shown_of other) w ≡ a → top_in (hidden_of other) w ≡ b → first_on other w ≡ better_of other a b
     first a b e f = first_is other w ∙ ap (λ (o : Option Resting). better_of other o (top_in (hidden_of other) w)) e ∙ ap (better_of other a) f
 
     by_first : (a b : Option Resting) → top_in (shown_of other) w ≡ a → top_in (hidden_of other) w ≡ b → next_of w side limit ≡ None

@@ -7,7 +7,7 @@ use Rattle.market_types.specs.declared.order.Side.{Side}
 use Rattle.market_types.specs.declared.order.Side.TheVariants.{Buy, Sell}
 use Rattle.price_time_book.specs.declared.resting.Resting.{Resting}
 use Rattle.price_time_book.specs.Next.{beats, crosses, first_best, next_of}
-use Rattle.price_time_book.specs.Queues.{better_of, first_of, hidden_of, is_in, shown_of, top_in}
+use Rattle.price_time_book.specs.Queues.{better_of, first_on, hidden_of, is_in, shown_of, top_in}
 use Rattle.price_time_book.proofs.Ranks.{beats_hidden, beats_rank, behind, better_through, either, no_better, one_way, or_first, rank, ranks_apart}
 use Rattle.price_time_book.specs.Sides.{is_on, is_better, is_within, opposite_of}
 
@@ -170,7 +170,7 @@ parted : (s : Side) (w : List Resting) (a b : Option Resting) → IfSome b (λ o
 parted s [] a b k = refl
 parted s (x ∷ w) a b k = parted_step s x w a b k (λ a b k. parted s w a b k) (is_on s x) x.shown refl
 
-pub first_is : (s : Side) (w : List Resting) → first_of s w ≡ better_of s (top_in (shown_of s) w) (top_in (hidden_of s) w)
+pub first_is : (s : Side) (w : List Resting) → first_on s w ≡ better_of s (top_in (shown_of s) w) (top_in (hidden_of s) w)
 first_is s w =
     folded s (is_on s) w
     ∙ parted s w None None tt
@@ -179,22 +179,22 @@ first_is s w =
 
 -- ---- the next order
 -- the next order is the first of the other side, if that crosses
-pub next_by_top : (side : Side) (limit : ℕ) (w : List Resting) → next_of w side limit ≡ gate side limit (first_of (opposite_of side) w)
+pub next_by_top : (side : Side) (limit : ℕ) (w : List Resting) → next_of w side limit ≡ gate side limit (first_on (opposite_of side) w)
 next_by_top side limit w =
     folded (opposite_of side) (crosses side limit) w ∙ gate_fold side limit None w ∙ ap (gate side limit) (sym (folded (opposite_of side) (is_on (opposite_of side)) w))
 
-first_at : (side other : Side) (s v : List Resting) (top : Option (ℕ × Resting)) → s ≡ v → other ≡ opposite_of side → option_map (λ p. p.1) top ≡ first_of other s → first_of (opposite_of side) v ≡ option_map (λ p. p.1) top
+first_at : (side other : Side) (s v : List Resting) (top : Option (ℕ × Resting)) → s ≡ v → other ≡ opposite_of side → option_map (λ p. p.1) top ≡ first_on other s → first_on (opposite_of side) v ≡ option_map (λ p. p.1) top
 first_at side other s v top same side_is first = cc
 
 -- the same by what the search answered for the slice s of the items w, which have two names
-pub next-none : (side other : Side) (limit : ℕ) (s w v : List Resting) (top : Option (ℕ × Resting)) → s ≡ w → w ≡ v → other ≡ opposite_of side → option_map (λ p. p.1) top ≡ first_of other s → top ≡ None → next_of v side limit ≡ None
+pub next-none : (side other : Side) (limit : ℕ) (s w v : List Resting) (top : Option (ℕ × Resting)) → s ≡ w → w ≡ v → other ≡ opposite_of side → option_map (λ p. p.1) top ≡ first_on other s → top ≡ None → next_of v side limit ≡ None
 next-none side other limit s w v top seen same side_is first is =
     next_by_top side limit v ∙ ap (gate side limit) (first_at side other s v top (seen ∙ same) side_is first ∙ ap (option_map (λ p. p.1)) is)
 
-pub next-beyond : (side other : Side) (limit : ℕ) (s w v : List Resting) (top : Option (ℕ × Resting)) (i : ℕ) (o : Resting) → s ≡ w → w ≡ v → other ≡ opposite_of side → option_map (λ p. p.1) top ≡ first_of other s → top ≡ Some (i, o) → is_within side limit o.price ≡ false → next_of v side limit ≡ None
+pub next-beyond : (side other : Side) (limit : ℕ) (s w v : List Resting) (top : Option (ℕ × Resting)) (i : ℕ) (o : Resting) → s ≡ w → w ≡ v → other ≡ opposite_of side → option_map (λ p. p.1) top ≡ first_on other s → top ≡ Some (i, o) → is_within side limit o.price ≡ false → next_of v side limit ≡ None
 next-beyond side other limit s w v top i o seen same side_is first is h =
     next_by_top side limit v ∙ ap (gate side limit) (first_at side other s v top (seen ∙ same) side_is first ∙ ap (option_map (λ p. p.1)) is) ∙ ap (λ b. cond b (Some o) None) h
 
-pub next-within : (side other : Side) (limit : ℕ) (s w v : List Resting) (top : Option (ℕ × Resting)) (i : ℕ) (o : Resting) → s ≡ w → w ≡ v → other ≡ opposite_of side → option_map (λ p. p.1) top ≡ first_of other s → top ≡ Some (i, o) → is_within side limit o.price ≡ true → next_of v side limit ≡ Some o
+pub next-within : (side other : Side) (limit : ℕ) (s w v : List Resting) (top : Option (ℕ × Resting)) (i : ℕ) (o : Resting) → s ≡ w → w ≡ v → other ≡ opposite_of side → option_map (λ p. p.1) top ≡ first_on other s → top ≡ Some (i, o) → is_within side limit o.price ≡ true → next_of v side limit ≡ Some o
 next-within side other limit s w v top i o seen same side_is first is h =
     next_by_top side limit v ∙ ap (gate side limit) (first_at side other s v top (seen ∙ same) side_is first ∙ ap (option_map (λ p. p.1)) is) ∙ ap (λ b. cond b (Some o) None) h

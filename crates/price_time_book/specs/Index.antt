@@ -1,12 +1,10 @@
--- Sorted indexes of the vector of arrival: by reference, and by agent and token.
-use Rattle.std.specs.Prelude.{◌≡◌, ◌<◌, ◌≤◌, ℕ, List, All, drop, length, slice_index_or, take}
-use Rattle.std.specs.Cmp.Lexicographic.{slice_cmp}
-use Rattle.std.specs.Ordering.{nat_cmp, ordering_then}
+-- A sorted index of the vector of arrival, and orders that change in their places.
+use Rattle.std.specs.Prelude.{◌≡◌, ◌<◌, ◌≤◌, ℕ, List, All, length, slice_index_or}
+use Rattle.std.specs.Ordering.{nat_cmp}
 use Rattle.std.specs.declared.cmp.Ordering.{Ordering}
 use Rattle.std.specs.declared.cmp.Ordering.TheVariants.{Less}
 use Rattle.price_time_book.specs.declared.resting.Resting.{Resting}
 use Rattle.price_time_book.specs.declared.index.ReferenceEntry.{ReferenceEntry}
-use Rattle.price_time_book.specs.declared.index.TokenEntry.{TokenEntry}
 use Rattle.price_time_book.specs.Indexed.{nothing}
 
 -- entries whose keys rise: each stands for an order of the vector that has its key, and each open order
@@ -16,27 +14,8 @@ pub record IsIndex {E K : Type 0} (key : E → K) (place : E → ℕ) (cmp : K �
   pub right : All (λ (e : E). (place e < length os) × (of (slice_index_or os (place e) nothing) ≡ key e)) es
   pub covered : (k : ℕ) → k < length os → 0 < (slice_index_or os k nothing).left → (i : ℕ) × (i < length es) × ((d : E) → place (slice_index_or es i d) ≡ k)
 
--- an agent and a token as one key
-abbrev pub pair_of : Resting → ℕ × List ℕ
-pair_of o = (o.agent, o.token.0)
-
--- tokens by their last eight bytes, and then by their first eight: a trader's tokens end in digits that rise
--- by one, so those that traders give at about one time stand together
-abbrev pub by_ends : List ℕ → List ℕ → Ordering
-by_ends t u = ordering_then (slice_cmp nat_cmp (drop 6 t) (drop 6 u)) (slice_cmp nat_cmp (take 8 t) (take 8 u))
-
--- keys of agent and token by the token, and then by the agent
-abbrev pub by_pair : ℕ × List ℕ → ℕ × List ℕ → Ordering
-by_pair p q = ordering_then (by_ends p.1 q.1) (nat_cmp p.0 q.0)
-
-abbrev pub pair_at : TokenEntry → ℕ × List ℕ
-pair_at e = (e.agent, e.token.0)
-
 abbrev pub IsByReference : List Resting → List ReferenceEntry → Type 0
 IsByReference os es = IsIndex (λ (e : ReferenceEntry). e.reference) (λ (e : ReferenceEntry). e.place) nat_cmp (λ (o : Resting). o.reference) os es
-
-abbrev pub IsByToken : List Resting → List TokenEntry → Type 0
-IsByToken os es = IsIndex pair_at (λ (e : TokenEntry). e.place) by_pair pair_of os es
 
 -- an order that became another with the same reference, agent and token, and no more open shares
 pub record IsLessened (o x : Resting) : Type 0 where

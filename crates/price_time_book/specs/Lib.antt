@@ -1,4 +1,5 @@
 pub mod Awaited
+pub mod Chains
 pub mod Index
 pub mod Indexed
 pub mod Kept

@@ -38,8 +38,8 @@ abbrev pub best_in : Queue → List Resting → Option Best
 best_in q book = option_map (λ o. record { price = o.price; shares = shares_in q o.price book }) (top_in q book)
 
 -- the first order of a side, shown or hidden
-abbrev pub first_of : Side → List Resting → Option Resting
-first_of side book = first_best side (filter (is_on side) book)
+abbrev pub first_on : Side → List Resting → Option Resting
+first_on side book = first_best side (filter (is_on side) book)
 
 -- of the first shown and the first hidden order of a side the one that comes first: at one price the shown one
 abbrev pub better_of : Side → Option Resting → Option Resting → Option Resting

@@ -1,6 +1,6 @@
 //! The book.
 
-ghost use Rattle.std.specs.Prelude.{false, ◌≡◌, ◌<◌, ◌≤◌, ◌-◌, ◌∷◌, ◌++◌, ◌↔◌, [], IsTrue, OnErr, OnOk, IfOk, IfSome, IfNone, All, Some, None, length, option_map, slice_get};
+ghost use Rattle.std.specs.Prelude.{false, ◌≡◌, ◌<◌, ◌≤◌, ◌+◌, ◌*◌, ◌-◌, ◌∷◌, ◌++◌, ◌↔◌, [], true, IsTrue, OnErr, OnOk, IfOk, IfSome, IfNone, All, Some, None, length, option_map, slice_get};
 ghost use Rattle.price_time_book.specs.Awaited.{AreAwaited};
 ghost use Rattle.price_time_book.specs.Indexed.{open_orders};
 ghost use Rattle.price_time_book.specs.Matched.{fill_of, after_fill, matched};
@@ -9,18 +9,22 @@ ghost use Rattle.price_time_book.specs.Orderly.{IsOrderly};
 ghost use Rattle.price_time_book.specs.Orders.{order_of, order_with, changed, reduced};
 ghost use Rattle.price_time_book.specs.Sides.{depth_of};
 
-use crate::index::{ReferenceEntry, TokenEntry, enter_reference, enter_token};
+use crate::chains::{Chains, begin_chains, enter_token};
+use crate::index::{ReferenceEntry, enter_reference};
 use crate::levels::{Half, Queue, best_in, fits, is_met, join};
 use crate::lowering::{lower_at, take_first};
 use crate::resting::{Best, Fill, Resting};
 use crate::room::{make_room_in_half, make_room_in_two};
-use crate::search::{crossing_in, held_at, open_of, order_of};
+use crate::search::{crossing_in, held_at, is_open, open_of, order_of};
 use market_types::{AgentNo, Memory, Side, Token, copied};
 use std::alloc::Global;
 use std::marker::Model;
 
-// How many orders may have left before the vector of arrival is made anew.
+// The vector of arrival is made anew where half its length exceeds the orders that rest by more than this.
 const LEFT_BEHIND: usize = 32;
+
+// For so many orders at least places are made at a time.
+const PLACES_AHEAD: usize = 16;
 
 // For how many fills at most room is made without a count of the orders that cross.
 const FEW_FILLS: usize = 512;
@@ -28,8 +32,8 @@ const FEW_FILLS: usize = 512;
 /// The resting orders of one stock.
 ///
 /// The orders stand in one vector in order of arrival, those that have left at 0 open shares. Over it
-/// stand the levels of price of both sides, those of shown and of hidden orders apart, and an index by
-/// reference and one by agent and token. Where room is made for more orders and most in the vector have
+/// stand the levels of price of both sides, those of shown and of hidden orders apart, an index by
+/// reference and the chains of the agents' orders. Where room is made for more orders and most in the vector have
 /// left, all of it is made anew.
 #[derive(Drop)]
 pub struct Book {
@@ -38,16 +42,17 @@ pub struct Book {
     buys: Half,
     sells: Half,
     references: Vec<ReferenceEntry>,
-    tokens: Vec<TokenEntry>,
+    chains: Chains,
     spare: usize,
 }
 
 impl Model for Book {
-    ghost use Rattle.std.specs.Prelude.{◌≡◌, ◌≤◌, ◌+◌, vec_len, vec_capacity};
+    ghost use Rattle.std.specs.Prelude.{◌≡◌, ◌<◌, ◌≤◌, ◌+◌, vec_len, vec_capacity};
     ghost use Rattle.market_types.specs.Room.{Room};
     ghost use Rattle.market_types.specs.declared.order.Side.TheVariants.{Buy, Sell};
     ghost use Rattle.price_time_book.specs.declared.resting.Resting.{Resting};
-    ghost use Rattle.price_time_book.specs.Index.{IsByReference, IsByToken};
+    ghost use Rattle.price_time_book.specs.Chains.{IsChained};
+    ghost use Rattle.price_time_book.specs.Index.{IsByReference};
     ghost use Rattle.price_time_book.specs.Indexed.{IsIndexed, IsSmall, open_orders};
     ghost use Rattle.price_time_book.specs.Orderly.{IsOrderly};
     ghost use Rattle.price_time_book.specs.Queues.{hidden_of, shown_of};
@@ -65,7 +70,9 @@ impl Model for Book {
       hidden_buys_room : vec_len b.buys.hidden + b.spare ≤ vec_capacity b.buys.hidden;
       hidden_sells_room : vec_len b.sells.hidden + b.spare ≤ vec_capacity b.sells.hidden;
       references_room : vec_len b.references + b.spare ≤ vec_capacity b.references;
-      tokens_room : vec_len b.tokens + b.spare ≤ vec_capacity b.tokens;
+      befores_room : vec_len b.chains.befores + b.spare ≤ vec_capacity b.chains.befores;
+      lasts_begun : 0 < b.spare → 512 ≤ vec_len b.chains.lasts;
+      lasts_long : 0 < vec_len b.chains.lasts → 512 ≤ vec_len b.chains.lasts;
       buys : IsIndexed (shown_of Buy) b.orders.items b.nexts.items b.buys.shown.items;
       sells : IsIndexed (shown_of Sell) b.orders.items b.nexts.items b.sells.shown.items;
       hidden_buys : IsIndexed (hidden_of Buy) b.orders.items b.nexts.items b.buys.hidden.items;
@@ -73,7 +80,7 @@ impl Model for Book {
       buy_count : b.buys.count ≡ depth_of Buy (open_orders b.orders.items);
       sell_count : b.sells.count ≡ depth_of Sell (open_orders b.orders.items);
       references : IsByReference b.orders.items b.references.items;
-      tokens : IsByToken b.orders.items b.tokens.items;
+      chained : IsChained b.orders.items b.chains.lasts.items b.chains.befores.items;
       orderly : IsOrderly (open_orders b.orders.items);
       small : IsSmall (open_orders b.orders.items);
     } };
@@ -81,6 +88,7 @@ impl Model for Book {
 
 impl Book {
     /// The empty book. It takes no memory, and later calls take theirs from `alloc`.
+    #[tactic(auto, using(crate::proofs::Befores::chained_none))]
     pub fn new(alloc: Global) -> Book
         ensures { result ≡ record { list = []; spare = 0 } }
     {
@@ -98,7 +106,10 @@ impl Book {
                 count: 0,
             },
             references: Vec::new(alloc),
-            tokens: Vec::new(alloc),
+            chains: Chains {
+                lasts: Vec::new(alloc),
+                befores: Vec::new(alloc),
+            },
             spare: 0,
         }
     }
@@ -113,12 +124,15 @@ impl Book {
         if n <= self.spare {
             return Ok(());
         }
-        if !self.is_sparse() {
-            return self.widen(n);
+        let more = n.max(PLACES_AHEAD);
+        let (entries, resting) = (self.orders.len(), self.len());
+        if is_sparse(entries, resting) {
+            let packed = self.packed(more)?;
+            *self = packed;
+            return Ok(());
         }
-        let packed = self.packed(n)?;
-        *self = packed;
-        Ok(())
+        prove!(entries / 2 <= resting.saturating_add(LEFT_BEHIND));
+        self.widen(more)
     }
 
     /// A book with the same orders, which may keep any number of places.
@@ -139,11 +153,20 @@ impl Book {
             drop(buys);
             return Err(Memory);
         };
-        let Ok((references, tokens)) = copied_two(alloc, &self.references, &self.tokens) else {
+        let Ok(references) = copied(alloc, self.references.as_slice()) else {
             drop(orders);
             drop(nexts);
             drop(buys);
             drop(sells);
+            return Err(Memory);
+        };
+        let Ok((lasts, befores)) = copied_two(alloc, &self.chains.lasts, &self.chains.befores)
+        else {
+            drop(orders);
+            drop(nexts);
+            drop(buys);
+            drop(sells);
+            drop(references);
             return Err(Memory);
         };
         Ok(Book {
@@ -152,7 +175,7 @@ impl Book {
             buys,
             sells,
             references,
-            tokens,
+            chains: Chains { lasts, befores },
             spare: 0,
         })
     }
@@ -217,7 +240,7 @@ impl Book {
         fits(order.left);
         let place = self.orders.len();
         enter_reference(&mut self.references, &order, place);
-        enter_token(&mut self.tokens, &order, place);
+        enter_token(&mut self.chains, &order);
         match order.side {
             Side::Buy => {
                 join(&mut self.orders, &mut self.nexts, &mut self.buys, order);
@@ -239,7 +262,7 @@ impl Book {
         ensures live { IfSome result (λ o. (0 < o.now.left) × (o.now.left ≤ o.now.intended)) }
         ensures by_reference { IfSome result (λ o. order_with o.now.reference self.now.list ≡ Some o.now) }
     {
-        order_of(self.orders.as_slice(), self.tokens.as_slice(), agent, token)
+        order_of(self.orders.as_slice(), &self.chains, agent, token)
     }
 
     /// Lowers the open shares of the order with this reference to `left`, and its intended size by as
@@ -308,7 +331,7 @@ impl Book {
         ensures enough { length (matched self.now.list side limit shares).fills ≤ result }
         ensures few { result ≤ length self.now.list }
     {
-        self.is_orderly();
+        self.know_order();
         if !self.is_met(side, limit) {
             return 0;
         }
@@ -335,7 +358,7 @@ impl Book {
 
     /// What holds of the orders of each book: their references rise, each has open shares and no more
     /// than its intended size, and they are few.
-    pub fn is_orderly(&self)
+    pub fn know_order(&self)
         ensures { IsOrderly self.now.list }
     {
         let _orders = &self.orders;
@@ -358,12 +381,8 @@ impl Book {
         }
     }
 
-    // Whether so many orders of the vector of arrival have left, and more than half, that it is made anew.
-    fn is_sparse(&self) -> bool {
-        self.orders.len() / 2 > self.len().saturating_add(LEFT_BEHIND)
-    }
-
     // Makes room for `n` more in every vector.
+    #[tactic(auto, using(crate::proofs::Befores::chained_anew))]
     fn widen(&mut self, n: usize) -> Result<(), Memory>
         ensures list { self.new.list ≡ self.old.list }
         ensures room { OnOk result (n ≤ self.new.spare) }
@@ -376,8 +395,10 @@ impl Book {
         let orders = make_room_in_two(&mut self.orders, &mut self.nexts, n);
         let buys = make_room_in_half(&mut self.buys, n);
         let sells = make_room_in_half(&mut self.sells, n);
-        let entries = make_room_in_two(&mut self.references, &mut self.tokens, n);
-        if orders & buys & sells & entries {
+        let entries = make_room_in_two(&mut self.references, &mut self.chains.befores, n);
+        let alloc = *self.orders.allocator();
+        let begun = begin_chains(alloc, &mut self.chains.lasts);
+        if orders & buys & sells & entries & begun {
             self.spare = n;
             return Ok(());
         }
@@ -411,11 +432,19 @@ impl Book {
         ensures { self.new.list ≡ open_orders orders.now }
     {
         for order in orders {
-            if order.left != 0 {
+            if is_open(order) {
                 self.rest(*order);
             }
         }
     }
+}
+
+// Whether so many orders of the vector of arrival have left, and more than half, that it is made anew.
+fn is_sparse(entries: usize, resting: usize) -> bool
+    ensures sparse { result ≡ true → 2 * resting + 65 < entries }
+    ensures dense { result ≡ false → entries ≤ 2 * resting + 65 }
+{
+    entries / 2 > resting.saturating_add(LEFT_BEHIND)
 }
 
 // Copies of two vectors.

@@ -4,7 +4,6 @@ ghost use Rattle.std.specs.Prelude.{◌≡◌, bytes_eq, take, drop};
 ghost use Rattle.std.specs.Int.{w64, from_be_bytes};
 ghost use Rattle.std.specs.Ordering.{nat_cmp};
 ghost use Rattle.std.specs.Cmp.Lexicographic.{slice_cmp};
-ghost use Rattle.price_time_book.specs.Index.{by_ends};
 
 use std::cmp::Ordering;
 
@@ -18,14 +17,13 @@ pub fn compared(left: &[u8; 14], right: &[u8; 14]) -> Ordering
     }
 }
 
-// The order of two tokens by their last eight bytes, and then by their first eight.
-pub(crate) fn compared_by_ends(left: &[u8; 14], right: &[u8; 14]) -> Ordering
-    ensures { result ≡ by_ends left.now right.now }
+// Whether two tokens are the same, by two numbers of eight bytes each.
+pub(crate) fn is_same_token(left: &[u8; 14], right: &[u8; 14]) -> bool
+    ensures { result ≡ bytes_eq left.now right.now }
 {
-    match tail(left).cmp(&tail(right)) {
-        Ordering::Equal => head(left).cmp(&head(right)),
-        order => order,
-    }
+    let last = tail(left) == tail(right);
+    let first = head(left) == head(right);
+    last & first
 }
 
 /// Whether two symbols' bytes are the same, by one number each.

@@ -1,24 +1,20 @@
-//! Sorted indexes of the vector of arrival: by reference, and by agent and token.
+//! A sorted index of the vector of arrival by reference.
 //!
-//! An order that leaves keeps its entries until another comes under its key or the vector is made anew.
+//! An order that leaves keeps its entry until another comes under its key or the vector is made anew.
 //! So what a search finds may have left, and the search looks at its open shares.
 //!
-//! An order that joins has the greatest reference, and a token among the latest of its trader. Tokens are kept by their
-//! last bytes first, which count a trader's orders, so either entry is put near the end, and few entries move.
+//! An order that joins has the greatest reference, so its entry is put at the end, and none moves.
 
 ghost use Rattle.std.specs.Prelude.{◌≡◌, ◌≢◌, ◌<◌, ◌≤◌, ◌+◌, ◌-◌, ◌++◌, ◌∷◌, [], Some, None, IfSome, IfNone, All, List, length, slice_index_or, vec_len, vec_capacity, true, false};
 ghost use Rattle.std.specs.Ordering.{is_lt, nat_cmp};
 ghost use Rattle.std.specs.declared.cmp.Ordering.TheVariants.{Equal};
 ghost use Rattle.price_time_book.specs.declared.index.ReferenceEntry.{ReferenceEntry};
-ghost use Rattle.price_time_book.specs.declared.index.TokenEntry.{TokenEntry};
 ghost use Rattle.price_time_book.specs.declared.resting.Resting.{Resting};
-ghost use Rattle.price_time_book.specs.Index.{IsByReference, IsByToken, by_pair, pair_at};
+ghost use Rattle.price_time_book.specs.Index.{IsByReference};
 ghost use Rattle.price_time_book.specs.Indexed.{nothing, open_orders};
-ghost use Rattle.price_time_book.specs.Orders.{order_of, order_with};
+ghost use Rattle.price_time_book.specs.Orders.{order_with};
 
-use crate::bytes::compared_by_ends;
 use crate::resting::Resting;
-use market_types::{AgentNo, Token};
 use std::cmp::Ordering;
 
 /// Where the order with a reference stands in the vector of arrival.
@@ -28,29 +24,11 @@ pub struct ReferenceEntry {
     pub place: usize,
 }
 
-/// Where the last order that an agent sent under a token stands.
-#[derive(Clone, Copy)]
-pub struct TokenEntry {
-    pub agent: AgentNo,
-    pub token: Token,
-    pub place: usize,
-}
-
 // How the key of an entry compares with a reference.
 fn compare_reference(entry: &ReferenceEntry, reference: u64) -> Ordering
     ensures { result ≡ nat_cmp entry.now.reference reference }
 {
     entry.reference.cmp(&reference)
-}
-
-// How the key of an entry compares with an agent and a token.
-fn compare_token(entry: &TokenEntry, agent: AgentNo, token: &Token) -> Ordering
-    ensures { result ≡ by_pair (pair_at entry.now) (agent, token.now.0) }
-{
-    match compared_by_ends(&entry.token.0, &token.0) {
-        Ordering::Equal => entry.agent.cmp(&agent),
-        order => order,
-    }
 }
 
 // Where the first entry stands whose key is not below a reference, by halving.
@@ -142,84 +120,4 @@ pub fn by_reference(orders: &[Resting], entries: &[ReferenceEntry], reference: u
         return None;
     }
     Some(place)
-}
-
-// Where the first entry stands whose key is not below an agent and a token.
-fn token_from(entries: &[TokenEntry], agent: AgentNo, token: &Token) -> usize
-    ensures within { result ≤ length entries.now }
-    ensures below { (d : TokenEntry) → 0 < result → is_lt (by_pair (pair_at (slice_index_or entries.now (result - 1) d)) (agent, token.now.0)) ≡ true }
-    ensures above { (d : TokenEntry) → result < length entries.now →
-        is_lt (by_pair (pair_at (slice_index_or entries.now result d)) (agent, token.now.0)) ≡ false }
-{
-    let mut low = 0;
-    let mut high = entries.len();
-    while low < high {
-        let middle = low + (high - low) / 2;
-        if compare_token(&entries[middle], agent, token).is_lt() {
-            low = middle + 1;
-        } else {
-            high = middle;
-        }
-    }
-    low
-}
-
-// Whether the entry at a place has this key.
-fn has_token(entries: &[TokenEntry], at: usize, agent: AgentNo, token: &Token) -> bool
-    ensures some { result ≡ true →
-        (at < length entries.now) ×
-        ((d : TokenEntry) → by_pair (pair_at (slice_index_or entries.now at d)) (agent, token.now.0) ≡ Equal) }
-    ensures none { (d : TokenEntry) → result ≡ false → at < length entries.now →
-        by_pair (pair_at (slice_index_or entries.now at d)) (agent, token.now.0) ≢ Equal }
-{
-    at < entries.len() && compare_token(&entries[at], agent, token).is_eq()
-}
-
-// An order that joins the end of the vector of arrival is entered.
-pub fn enter_token(entries: &mut Vec<TokenEntry>, order: &Resting, place: usize)
-    requires room { vec_len entries.old < vec_capacity entries.old }
-    ensures indexed { (os : List Resting) → place ≡ length os → IsByToken os entries.old.items →
-        order_of order.now.agent order.now.token (open_orders os) ≡ None →
-        IsByToken (os ++ order.now ∷ []) entries.new.items }
-    ensures len { vec_len entries.new ≤ vec_len entries.old + 1 }
-    ensures capacity { vec_capacity entries.old ≤ vec_capacity entries.new }
-{
-    let entry = TokenEntry {
-        agent: order.agent,
-        token: order.token,
-        place,
-    };
-    let at = token_from(entries.as_slice(), order.agent, &order.token);
-    if has_token(entries.as_slice(), at, order.agent, &order.token) {
-        entries[at] = entry;
-        return;
-    }
-    match entries.insert(at, entry) {
-        Ok(()) => {}
-        Err(_) => unreachable!(),
-    }
-}
-
-// Where the open order with this key stands.
-pub fn by_token(
-    orders: &[Resting],
-    entries: &[TokenEntry],
-    agent: AgentNo,
-    token: &Token,
-) -> Option<usize>
-    requires { IsByToken orders.now entries.now }
-    ensures absent { IfNone result (order_of agent token.now (open_orders orders.now) ≡ None) }
-    ensures within { IfSome result (λ p. p < length orders.now) }
-    ensures found { IfSome result (λ p. order_of agent token.now (open_orders orders.now) ≡
-        Some (slice_index_or orders.now p nothing)) }
-{
-    let at = token_from(entries, agent, token);
-    if !has_token(entries, at, agent, token) {
-        return None;
-    }
-    let held = entries[at].place;
-    if orders[held].left == 0 {
-        return None;
-    }
-    Some(held)
 }

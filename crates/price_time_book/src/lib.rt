@@ -9,6 +9,7 @@
 
 mod book;
 pub mod bytes;
+mod chains;
 mod index;
 pub mod keeping;
 pub mod laws;

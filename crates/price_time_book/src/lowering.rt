@@ -11,7 +11,7 @@ ghost use Rattle.price_time_book.specs.Matched.{after_fill, fill_of};
 ghost use Rattle.price_time_book.specs.Next.{next_of};
 ghost use Rattle.price_time_book.specs.Orderly.{IsOrderly};
 ghost use Rattle.price_time_book.specs.Orders.{changed};
-ghost use Rattle.price_time_book.specs.Queues.{better_of, first_of, hidden_of, queue_of, shown_of, top_in};
+ghost use Rattle.price_time_book.specs.Queues.{better_of, first_on, hidden_of, queue_of, shown_of, top_in};
 ghost use Rattle.price_time_book.specs.Sides.{depth_of, opposite_of};
 
 use crate::levels::{Half, Level, Queue, place_of, place_of_best};
@@ -119,10 +119,10 @@ fn earlier(
 }
 
 // The first order of a side, shown or hidden.
-fn first_of(side: Side, orders: &[Resting], nexts: &[usize], half: &mut Half) -> Option<First>
+fn first_on(side: Side, orders: &[Resting], nexts: &[usize], half: &mut Half) -> Option<First>
     requires shown { IsIndexed (shown_of side) orders.now nexts.now half.old.shown.items }
     requires hidden { IsIndexed (hidden_of side) orders.now nexts.now half.old.hidden.items }
-    ensures first { first_of side (open_orders orders.now) ≡ option_map (λ f. slice_index_or orders.now f.place nothing) result }
+    ensures first { first_on side (open_orders orders.now) ≡ option_map (λ f. slice_index_or orders.now f.place nothing) result }
     ensures within { IfSome result (λ f. f.place < length orders.now) }
     ensures shown_level { IfSome result (λ f. f.shown ≡ true → f.level < length half.new.shown.items) }
     ensures hidden_level { IfSome result (λ f. f.shown ≡ false → f.level < length half.new.hidden.items) }
@@ -323,7 +323,7 @@ pub fn take_first(
     ensures hidden_len { vec_len half.new.hidden ≤ vec_len half.old.hidden }
     ensures hidden_capacity { vec_capacity half.new.hidden ≡ vec_capacity half.old.hidden }
 {
-    let first = first_of(mine, orders.as_slice(), nexts, half)?;
+    let first = first_on(mine, orders.as_slice(), nexts, half)?;
     let price = orders[first.place].price;
     if !is_within(side, limit, price) {
         return None;

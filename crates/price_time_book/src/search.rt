@@ -2,13 +2,15 @@
 
 ghost use Rattle.std.specs.Prelude.{◌≡◌, ◌==◌, ◌&&◌, not, count_by, filter, IfOk, IfSome, Some, false, option_map, slice_get};
 ghost use Rattle.std.specs.Option.{option_map_or};
-ghost use Rattle.price_time_book.specs.Index.{IsByReference, IsByToken};
+ghost use Rattle.price_time_book.specs.Chains.{IsChained};
+ghost use Rattle.price_time_book.specs.Index.{IsByReference};
 ghost use Rattle.price_time_book.specs.Indexed.{open_orders};
 ghost use Rattle.price_time_book.specs.Orders.{order_of, order_with};
 ghost use Rattle.price_time_book.specs.Next.{crosses, crossing_of};
 ghost use Rattle.price_time_book.specs.Sides.{is_better, is_within};
 
-use crate::index::{ReferenceEntry, TokenEntry, by_reference, by_token};
+use crate::chains::{Chains, by_token};
+use crate::index::{ReferenceEntry, by_reference};
 use crate::resting::{Best, Resting};
 use market_types::{AgentNo, Memory, Side, Token};
 use std::alloc::{AllocError, Global};
@@ -50,6 +52,13 @@ pub fn is_crossed(best: Option<Best>, side: Side, limit: u32) -> bool
     }
 }
 
+// Whether an order has open shares.
+pub fn is_open(order: &Resting) -> bool
+    ensures { result ≡ not (order.now.left == 0) }
+{
+    order.left != 0
+}
+
 // How many orders are open and cross an incoming order of this side with this limit.
 fn count_crossing(orders: &[Resting], side: Side, limit: u32) -> usize
     ensures { result ≡ count_by (λ o. not (o.left == 0) && crosses side limit o) orders.now }
@@ -84,14 +93,14 @@ pub fn held_at(
 // The open order that an agent sent under a token.
 pub fn order_of<'a>(
     orders: &'a [Resting],
-    entries: &[TokenEntry],
+    chains: &Chains,
     agent: AgentNo,
     token: &Token,
 ) -> Option<&'a Resting>
-    requires { IsByToken orders.now entries.now }
+    requires { IsChained orders.now chains.now.lasts.items chains.now.befores.items }
     ensures { option_map (λ o. o.now) result ≡ order_of agent token.now (open_orders orders.now) }
 {
-    let at = by_token(orders, entries, agent, token)?;
+    let at = by_token(orders, chains, agent, token)?;
     Some(&orders[at])
 }
 

@@ -1,17 +1,16 @@
 //! What the definitions give on worked examples.
 
-ghost use Rattle.std.specs.Prelude.{◌≡◌, ◌∷◌, [], Some, None, true, false, codes};
-ghost use Rattle.price_time_book.specs.Index.{by_pair};
+ghost use Rattle.std.specs.Prelude.{◌≡◌, ◌∷◌, [], Some, None, true, false};
+ghost use Rattle.price_time_book.specs.Chains.{chain_of};
 ghost use Rattle.price_time_book.specs.Matched.{fill_of, after_fill, matched};
 ghost use Rattle.price_time_book.specs.Next.{beats, best_at, crossing_of, next_of};
 ghost use Rattle.price_time_book.specs.Orders.{order_with, changed, reduced};
 ghost use Rattle.price_time_book.specs.Priced.{best_priced, first_priced};
-ghost use Rattle.price_time_book.specs.Queues.{best_in, first_of, hidden_of, shown_of, top_in};
+ghost use Rattle.price_time_book.specs.Queues.{best_in, first_on, hidden_of, shown_of, top_in};
 ghost use Rattle.price_time_book.specs.Sides.{depth_of};
 ghost use Rattle.price_time_book.specs.Worked.{bought, dear, early, given, late, three_sells, veiled, veiled_sells};
 
 use market_types::Side;
-use std::cmp::Ordering;
 
 /// Three sells are swept by an order to buy 700 shares at 10.01 dollars: the two at 10.00 come first,
 /// the earlier of them before the later, and 100 shares stay unmatched.
@@ -89,19 +88,16 @@ pub fn which_comes_first()
 pub fn queues()
     ensures shown { top_in (shown_of Side.Sell) veiled_sells ≡ Some (late 300) }
     ensures hidden { top_in (hidden_of Side.Sell) veiled_sells ≡ Some (veiled (early 200)) }
-    ensures first { first_of Side.Sell veiled_sells ≡ Some (late 300) }
+    ensures first { first_on Side.Sell veiled_sells ≡ Some (late 300) }
     ensures best_shown { best_in (shown_of Side.Sell) veiled_sells ≡ Some (record { price = 100000; shares = 300 }) }
     ensures best_hidden { best_in (hidden_of Side.Sell) veiled_sells ≡ Some (record { price = 100000; shares = 200 }) }
     ensures by_price { first_priced Side.Sell veiled_sells ≡ Some (veiled (early 200)) }
     ensures best_by_price { best_priced Side.Sell veiled_sells ≡ Some (record { price = 100000; shares = 500 }) }
 {}
 
-/// Keys of agent and token go by the token's last eight bytes first: token 2 of any trader comes before token 3 of another.
-/// Where these are equal the first eight bytes decide, and where the tokens are equal the agents do.
-pub fn tokens_in_order()
-    ensures one_agent { by_pair (1, codes "T0001000000002") (1, codes "T0001000000003") ≡ Ordering.Less }
-    ensures last_bytes { by_pair (9, codes "T0009000000002") (1, codes "T0001000000003") ≡ Ordering.Less }
-    ensures first_bytes { by_pair (1, codes "T0001000000002") (2, codes "T0002000000002") ≡ Ordering.Less }
-    ensures agents { by_pair (1, codes "T0001000000002") (2, codes "T0001000000002") ≡ Ordering.Less }
-    ensures same { by_pair (1, codes "T0001000000002") (1, codes "T0001000000002") ≡ Ordering.Equal }
+/// An agent's orders are in the chain of its number. Agents whose numbers differ by 512 share one.
+pub fn which_chain()
+    ensures own { chain_of 3 ≡ 3 }
+    ensures last { chain_of 511 ≡ 511 }
+    ensures shared { chain_of 515 ≡ 3 }
 {}

@@ -5,7 +5,7 @@ use Rattle.market_types.specs.declared.order.Side.{Side}
 use Rattle.market_types.specs.declared.order.Side.TheVariants.{Buy}
 use Rattle.reopen_cross.specs.declared.cross.Interest.{Interest}
 use Rattle.reopen_cross.specs.declared.cross.Part.{Part}
-use Rattle.reopen_cross.specs.Parts.{filled, first_of}
+use Rattle.reopen_cross.specs.Parts.{filled, first_ahead}
 
 abbrev left-of : Interest → ℕ
 left-of o = o.left
@@ -19,7 +19,7 @@ abbrev pub nobody : Interest
 nobody = record { reference = 0; side = Buy; price = 0; left = 0; shown = false }
 
 -- ---- filling, a turn at a time
-pub filled-none : (n : ℕ) (side : Side) (w : ℕ) (os : List Interest) → first_of side os ≡ None → filled n side w os ≡ []
+pub filled-none : (n : ℕ) (side : Side) (w : ℕ) (os : List Interest) → first_ahead side os ≡ None → filled n side w os ≡ []
 filled-none zero side w os e = refl
 filled-none (suc n) side w [] e = refl
 filled-none (suc n) side w (o ∷ os) e = absurd (cc e)

@@ -27,9 +27,9 @@ abbrev pub takes_part : Side → ℕ → Interest → Bool
 takes_part side p o = is_same_side o.side side && is_within side p o.price
 
 -- the order that is filled first: of those that no other is ahead of the earliest in the list
-abbrev pub first_of : Side → List Interest → Option Interest
-first_of side [] = None
-first_of side (o ∷ os) = Some (best_of (is_ahead side) o os)
+abbrev pub first_ahead : Side → List Interest → Option Interest
+first_ahead side [] = None
+first_ahead side (o ∷ os) = Some (best_of (is_ahead side) o os)
 
 -- all but the order with a reference
 abbrev pub others : ℕ → List Interest → List Interest
@@ -42,7 +42,7 @@ part_of wanted o = record { side = o.side; reference = o.reference; shares = min
 -- so many times the next order is filled, until no shares are wanted
 abbrev pub filled : ℕ → Side → ℕ → List Interest → List Part
 filled zero side wanted os = []
-filled (suc n) side wanted os = elim (first_of side os) [
+filled (suc n) side wanted os = elim (first_ahead side os) [
   | None ↦ []
   | Some o ↦ if wanted == 0 then [] else part_of wanted o ∷ filled n side (wanted - min o.left wanted) (others o.reference os)
 ]

@@ -93,7 +93,7 @@ fn resumed(
     ensures events { IfOk result (λ k. k.events ≡ near.events) }
 {
     courses_stay_in_range();
-    course.is_course();
+    course.know_course();
     let Some(kept) = shelf.get(near.key) else {
         unreachable!()
     };
@@ -201,7 +201,7 @@ fn onward<L: Ledger>(
     ensures least { steps.old ≤ steps.new }
     ensures most { steps.new + before.kernel.events ≤ steps.old + event }
 {
-    course.is_course();
+    course.know_course();
     if before.has_more {
         return Ok(before);
     }

@@ -12,7 +12,7 @@ use Rattle.branch_tree.specs.declared.error.PlanError.{PlanError}
 use Rattle.branch_tree.specs.declared.error.PlanError.TheVariants.{ParentNotBefore, StopOutOfRange, TooManyBranches, NameTwice, TooMuchWork, StopsMixed}
 use Rattle.branch_tree.specs.Stops.{is_within, no_earlier}
 use Rattle.branch_tree.specs.Plan.{no_branch, branch_at, parent_at, stop_at}
-use Rattle.branch_tree.specs.Tree.{IsRooted, late_from, late_parent, is_in_range, out_from, out_of_range, same_name, repeated_from, repeated_name, mixes, mixed_from, mixed_stop, first_of, too_many, too_much, plan_refusal}
+use Rattle.branch_tree.specs.Tree.{IsRooted, late_from, late_parent, is_in_range, out_from, out_of_range, same_name, repeated_from, repeated_name, mixes, mixed_from, mixed_stop, earlier_refusal, too_many, too_much, plan_refusal}
 use Rattle.branch_tree.proofs.TreeLemmas.{tree_from, late_passed as passed, none_first, none_mapped, few_passed, mixed_passed as unmet}
 use Rattle.session_desk.specs.TreeActs.{branch_with}
 
@@ -28,10 +28,10 @@ pub record Parts (bs : List Branch) (limit : ℕ) : Type 0 where
 pub parts-of : (bs : List Branch) (limit : ℕ) → plan_refusal bs limit ≡ None → Parts bs limit
 parts-of bs limit h =
     let e = option_map StopsMixed (mixed_stop bs) in
-    let d = first_of (too_much (length bs) limit) e in
-    let c = first_of (option_map NameTwice (repeated_name bs)) d in
-    let b = first_of (too_many (length bs)) c in
-    let a = first_of (option_map StopOutOfRange (out_of_range limit bs)) b in
+    let d = earlier_refusal (too_much (length bs) limit) e in
+    let c = earlier_refusal (option_map NameTwice (repeated_name bs)) d in
+    let b = earlier_refusal (too_many (length bs)) c in
+    let a = earlier_refusal (option_map StopOutOfRange (out_of_range limit bs)) b in
     let first = none_first (option_map ParentNotBefore (late_parent bs)) a h in
     let second = none_first (option_map StopOutOfRange (out_of_range limit bs)) b first.1 in
     let third = none_first (too_many (length bs)) c second.1 in
@@ -47,7 +47,7 @@ parts-of bs limit h =
     }
 
 all_none : (a b : Option ℕ) (c : Option PlanError) (d : Option ℕ) (e : Option PlanError) (f : Option ℕ) → a ≡ None → b ≡ None → c ≡ None → d ≡ None → e ≡ None → f ≡ None
-    → first_of (option_map ParentNotBefore a) (first_of (option_map StopOutOfRange b) (first_of c (first_of (option_map NameTwice d) (first_of e (option_map StopsMixed f))))) ≡ None
+    → earlier_refusal (option_map ParentNotBefore a) (earlier_refusal (option_map StopOutOfRange b) (earlier_refusal c (earlier_refusal (option_map NameTwice d) (earlier_refusal e (option_map StopsMixed f))))) ≡ None
 all_none a b c d e f p q r s t u = rw (p, q, r, s, t, u) refl
 
 pub from-parts : (bs : List Branch) (limit : ℕ) → Parts bs limit → plan_refusal bs limit ≡ None

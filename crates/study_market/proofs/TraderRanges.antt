@@ -20,7 +20,7 @@ use Rattle.study_file.specs.Values.{number_at, number_or, string_at, is_between,
 use Rattle.study_market.specs.MarketRules.{size_of, bases, start_of, is_group}
 use Rattle.study_market.specs.StockRules.{symbols}
 use Rattle.study_market.specs.ChangeRules.{is_kind, names_stock}
-use Rattle.study_market.specs.AgentRules.{agents, count_found, count_in, left_after, first_too_many, counts_broken, count_of, first_of, has_timing, timing_broken, agent_stock_broken, has_size, has_distance, has_guess, has_spans, has_levels, has_own, own_broken}
+use Rattle.study_market.specs.AgentRules.{agents, count_found, count_in, left_after, first_too_many, counts_broken, count_of, first_wakeup_at, has_timing, timing_broken, agent_stock_broken, has_size, has_distance, has_guess, has_spans, has_levels, has_own, own_broken}
 use Rattle.study_market.specs.Entries.{entry_of, natural_at, place_of}
 use Rattle.study_market.specs.Market.{numbers_in}
 use Rattle.study_market.specs.Traders.{value_kind_of, momentum_kind_of, maker_kind_of, kind_of, trader_of, traders_in, traders_of, size_of as shares_of}
@@ -180,7 +180,7 @@ pub record IsTimed (size start : ℕ) (t : Members) : Type 0 where
   pub delay : natural_at (codes "delay") t ≤ 3600000000000
   pub every : Within 1 3600000000000 (natural_at (codes "every") t)
   pub wobble : natural_at (codes "wobble") t ≤ 4294967295
-  pub last : first_of (count_of t - 1) t ≤ 86399999999999
+  pub last : first_wakeup_at (count_of t - 1) t ≤ 86399999999999
 
 pub is-timed : (size start : ℕ) (t : Members) → has_timing size start t ≡ true → IsTimed size start t
 is-timed size start t h =
@@ -190,7 +190,7 @@ is-timed size start t h =
     let delay : Bool = has_between (pos 0) (pos 3600000000000) (codes "delay") t in
     let every : Bool = has_between (pos 1) (pos 3600000000000) (codes "every") t in
     let wobble : Bool = has_between (pos 0) (pos 4294967295) (codes "wobble") t in
-    let last : Bool = nat_le (first_of (count_of t - 1) t) 86399999999999 in
+    let last : Bool = nat_le (first_wakeup_at (count_of t - 1) t) 86399999999999 in
     let seven = and_parts (group && first && spread && delay && every && wobble) last h in
     let six = and_parts (group && first && spread && delay && every) wobble seven.0 in
     let five = and_parts (group && first && spread && delay) every six.0 in
@@ -203,7 +203,7 @@ is-timed size start t h =
       delay = (natural-between 0 3600000000000 (number_at (codes "delay") t) four.1).not_above;
       every = natural-between 1 3600000000000 (number_at (codes "every") t) five.1;
       wobble = (natural-between 0 4294967295 (number_at (codes "wobble") t) six.1).not_above;
-      last = leb-true (first_of (count_of t - 1) t) 86399999999999 seven.1;
+      last = leb-true (first_wakeup_at (count_of t - 1) t) 86399999999999 seven.1;
     }
 
 pub before-last : (f s n count last : ℕ) → n < count → f + (count - 1) * s ≤ last → f + n * s ≤ last
@@ -247,7 +247,7 @@ loosely size start t few h =
     let delay : Bool = has_between (pos 0) (pos 3600000000000) (codes "delay") t in
     let every : Bool = has_between (pos 1) (pos 3600000000000) (codes "every") t in
     let wobble : Bool = has_between (pos 0) (pos 4294967295) (codes "wobble") t in
-    let last : Bool = nat_le (first_of (count_of t - 1) t) 86399999999999 in
+    let last : Bool = nat_le (first_wakeup_at (count_of t - 1) t) 86399999999999 in
     let seven = and_parts (is_group size t && first && spread && delay && every && wobble) last h in
     let six = and_parts (is_group size t && first && spread && delay && every) wobble seven.0 in
     let five = and_parts (is_group size t && first && spread && delay) every six.0 in

@@ -46,8 +46,8 @@ abbrev pub count_of : Members → ℕ
 count_of t = unsigned_abs (number_or (pos 1) (codes "count") t)
 
 -- when the trader of this number wakes first, from 0
-abbrev pub first_of : ℕ → Members → ℕ
-first_of i t = unsigned_abs (number_at (codes "first") t) + i * unsigned_abs (number_at (codes "spread") t)
+abbrev pub first_wakeup_at : ℕ → Members → ℕ
+first_wakeup_at i t = unsigned_abs (number_at (codes "first") t) + i * unsigned_abs (number_at (codes "spread") t)
 
 abbrev pub has_timing : ℕ → ℕ → Members → Bool
 has_timing size start t =
@@ -57,7 +57,7 @@ has_timing size start t =
     && has_between (pos 0) (pos 3600000000000) (codes "delay") t
     && has_between (pos 1) (pos 3600000000000) (codes "every") t
     && has_between (pos 0) (pos 4294967295) (codes "wobble") t
-    && nat_le (first_of (count_of t - 1) t) 86399999999999
+    && nat_le (first_wakeup_at (count_of t - 1) t) 86399999999999
 
 abbrev pub timing_broken : Members → Option ℕ
 timing_broken t = first_failing (has_timing (size_of t) (start_of t)) (agents t)

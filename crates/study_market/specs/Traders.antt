@@ -8,7 +8,7 @@ use Rattle.agent_shell.specs.declared.setting.TraderSetting.{TraderSetting}
 use Rattle.study_file.specs.Values.{number_at, string_at}
 use Rattle.study_market.specs.StockRules.{symbols}
 use Rattle.study_market.specs.ChangeRules.{is_kind}
-use Rattle.study_market.specs.AgentRules.{agents, count_of, first_of}
+use Rattle.study_market.specs.AgentRules.{agents, count_of, first_wakeup_at}
 use Rattle.study_market.specs.Entries.{entry_of, natural_at, place_of}
 
 abbrev pub size_of : Members → ℕ
@@ -39,7 +39,7 @@ trader_of known t number = record {
   kind = kind_of t;
   group = natural_at (codes "group") t;
   stock = place_of known (string_at (codes "stock") t);
-  first = first_of number t;
+  first = first_wakeup_at number t;
   every = natural_at (codes "every") t;
   wobble = natural_at (codes "wobble") t;
   delay = natural_at (codes "delay") t;

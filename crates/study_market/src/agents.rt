@@ -4,7 +4,7 @@ ghost use Rattle.std.specs.Prelude.{◌≡◌, nat_le, int_le, pos};
 ghost use Rattle.toml.specs.View.{table_view};
 ghost use Rattle.study_file.specs.Keys.{has_form as form_in};
 ghost use Rattle.study_market.specs.AgentForms.{agent_form};
-ghost use Rattle.study_market.specs.AgentRules.{count_of, first_of as first_wakeup, has_timing as timing_in};
+ghost use Rattle.study_market.specs.AgentRules.{count_of, first_wakeup_at as first_wakeup, has_timing as timing_in};
 
 use crate::forms::AGENT_KEYS;
 use crate::market_table::is_group;

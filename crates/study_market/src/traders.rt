@@ -6,7 +6,7 @@ ghost use Rattle.toml.specs.View.{table_view, view};
 ghost use Rattle.study_market.specs.declared.early_refusal.Refusal.{Refusal};
 ghost use Rattle.study_market.specs.MarketRules.{squares_broken as rule_7};
 ghost use Rattle.study_market.specs.StockRules.{symbol_in, stock_count_broken as rule_10};
-ghost use Rattle.study_market.specs.AgentRules.{count_of, first_of, has_timing as timing_in};
+ghost use Rattle.study_market.specs.AgentRules.{count_of, first_wakeup_at, has_timing as timing_in};
 ghost use Rattle.study_market.specs.EntryTests.{failed_test, agent_tests};
 ghost use Rattle.study_market.specs.FirstBroken.{first_of_rules};
 ghost use Rattle.study_market.specs.FirstOfMarket.{agent_rules};
@@ -30,7 +30,7 @@ use study_file::{Table, Value, list_at, number_at, string_at};
 fn first_wakeup(agent: &Table, number: u64) -> Time
     requires number { number < count_of (table_view agent.now) }
     requires timing { timing_in 32 0 (table_view agent.now) ≡ true }
-    ensures { result ≡ first_of number (table_view agent.now) }
+    ensures { result ≡ first_wakeup_at number (table_view agent.now) }
 {
     natural_at(agent, "first") + number * natural_at(agent, "spread")
 }

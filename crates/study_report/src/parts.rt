@@ -50,7 +50,7 @@ pub fn parts_of<'a, W: RunOutcomes>(
     requires ran { IsListedRunOf course.now (W.count ran.now) (W.kept_of ran.now) (W.closing_of ran.now) }
     ensures { IfOk result (λ v. flat_map (λ t. t.now.list) v.items ≡ (run_of course.now branch).entries) }
 {
-    course.is_course();
+    course.know_course();
     let last = course.last_segment(branch);
     parts_to(alloc, course, ran, last)
 }

@@ -8,7 +8,7 @@ use Rattle.toml.specs.Data.{Data, Members}
 use Rattle.branch_tree.specs.declared.branch.Branch.{Branch}
 use Rattle.branch_tree.specs.declared.error.PlanError.{PlanError}
 use Rattle.branch_tree.specs.declared.error.PlanError.TheVariants.{ParentNotBefore, StopOutOfRange, TooManyBranches, NameTwice, TooMuchWork, StopsMixed}
-use Rattle.branch_tree.specs.Tree.{IsRooted, late_parent, is_in_range, out_from, out_of_range, same_name, repeated_from, repeated_name, mixed_stop, first_of, too_many, too_much, plan_refusal}
+use Rattle.branch_tree.specs.Tree.{IsRooted, late_parent, is_in_range, out_from, out_of_range, same_name, repeated_from, repeated_name, mixed_stop, earlier_refusal, too_many, too_much, plan_refusal}
 use Rattle.study_file.proofs.KeyLists.{any-map, length-mapped}
 use Rattle.study_rules.specs.Entries.{branch_entries, name_in}
 use Rattle.study_rules.specs.BranchRules.{has_new_name, has_parent, has_stop, events_of}
@@ -50,8 +50,8 @@ much-none n m events e h =
     (ap (λ k. nat_le (k * events) 4000000) (ap suc e ∙ sym (add-one m)) ∙ h)
 
 all-none : (a b d f : Option ℕ) (c e : Option PlanError) → a ≡ None → b ≡ None → c ≡ None → d ≡ None → e ≡ None → f ≡ None
-    → first_of (option_map ParentNotBefore a) (first_of (option_map StopOutOfRange b)
-    (first_of c (first_of (option_map NameTwice d) (first_of e (option_map StopsMixed f))))) ≡ None
+    → earlier_refusal (option_map ParentNotBefore a) (earlier_refusal (option_map StopOutOfRange b)
+    (earlier_refusal c (earlier_refusal (option_map NameTwice d) (earlier_refusal e (option_map StopsMixed f))))) ≡ None
 all-none None None None None None None ha hb hc hd he hf = refl
 all-none (Some x) b d f c e ha hb hc hd he hf = absurd (cc ha)
 all-none None (Some x) d f c e ha hb hc hd he hf = absurd (cc hb)

@@ -63,7 +63,7 @@ pub fn put_branch_head(
     ensures refused { OnErr result (out.new.items ≡ out.old.items) }
 {
     let b = &course.plan().branches()[usize::from(branch)];
-    b.name.is_short();
+    b.name.know_length();
     let parent = if branch == 0 { u16::MAX } else { b.parent };
     put_branch(out, branch, parent, stop, b.name.as_slice())
 }

@@ -27,7 +27,7 @@ pub fn closing_of_branch<'a, W: RunOutcomes>(
 {
     courses_stay_in_range();
     agents_have_all_positions();
-    course.is_course();
+    course.know_course();
     ran.closing(course.last_segment(branch))
 }
 

@@ -20,7 +20,7 @@ fn tally_of_bundle<W: RunOutcomes>(alloc: Global, course: &Course, ran: &W) -> R
     ensures count { IfOk result (λ t. t.count ≡ bundle_size course.now) }
     ensures total { IfOk result (λ t. t.total ≡ byte_sum course.now) }
 {
-    course.is_course();
+    course.know_course();
     let segments = segment_tallies(alloc, course, ran)?;
     let mut tally = Tally::new();
     send_bundle(alloc, course, ran, &segments, &mut tally)?;

@@ -41,7 +41,7 @@ fn send_own<D, C: Carrier<D>, W: RunOutcomes>(
     ensures { C.Carried to.old to.new (own_frames course.now segment) 1 result }
 {
     courses_stay_in_range();
-    course.is_course();
+    course.know_course();
     carrier.segment(to, segment, ran.kept(segment))
 }
 
@@ -81,7 +81,7 @@ pub(crate) fn send_branch<D, C: Carrier<D>, W: RunOutcomes>(
     requires own { AreOwn (C.IsOwn carrier.now) course.now }
     ensures { C.Carried to.old to.new (trace_of course.now branch) (parts_of_trace course.now) result }
 {
-    course.is_course();
+    course.know_course();
     let last = course.last_segment(branch);
     send_made(opening_bytes(alloc, course, ran, branch), carrier, to)?;
     send_entries(course, ran, last, carrier, to)?;

@@ -21,13 +21,13 @@ refusal_by : (layout : ℕ → Option (List Kind)) (bs : List ℕ) (letter : ℕ
 refusal_by layout [] letter ks long is known = absurd (omega arith)
 refusal_by layout (b ∷ bs) letter ks long is known = rw (is, known) refl
 
-first_of : (bs : List ℕ) (w : Wire) → IsSpelled bs w → get_or bs 0 0 ≡ w.letter
-first_of bs w is = rw is.same refl
+first_byte : (bs : List ℕ) (w : Wire) → IsSpelled bs w → get_or bs 0 0 ≡ w.letter
+first_byte bs w is = rw is.same refl
 
 kinds_by : {M : Type 0} (wire : M → Wire) (layout : ℕ → Option (List Kind)) (message : Wire → M) → IsTable wire layout message
     → (bs : List ℕ) (letter : ℕ) (ks : List Kind) → get_or bs 0 0 ≡ letter → layout letter ≡ Some ks → (m : M) → IsSpelled bs (wire m) → (wire m).kinds ≡ ks
 kinds_by wire layout message table bs letter ks is known m spelled =
-    let same : (wire m).letter ≡ letter = sym (first_of bs (wire m) spelled) ∙ is in
+    let same : (wire m).letter ≡ letter = sym (first_byte bs (wire m) spelled) ∙ is in
     some_same (wire m).kinds ks (sym (table.kinds m) ∙ ap layout same ∙ known)
 
 -- where the bytes passed, the message of their values is read
@@ -64,7 +64,7 @@ read_failed wire layout message table bs letter ks first known only e some =
 pub read_unknown : {M : Type 0} (wire : M → Wire) (layout : ℕ → Option (List Kind)) (message : Wire → M) → IsTable wire layout message
     → (bs : List ℕ) → layout (get_or bs 0 0) ≡ None → (m : M) → IsSpelled bs (wire m) → ⊥
 read_unknown wire layout message table bs unknown m spelled =
-    let known : layout (get_or bs 0 0) ≡ Some (wire m).kinds = ap layout (first_of bs (wire m) spelled) ∙ table.kinds m in
+    let known : layout (get_or bs 0 0) ≡ Some (wire m).kinds = ap layout (first_byte bs (wire m) spelled) ∙ table.kinds m in
     absurd (cc (known, unknown))
 
 -- what is written of a message in its ranges is spelled so
@@ -75,7 +75,7 @@ spelled_by bs w is in_range = record { same = is; in_range = in_range }
 pub one_value : {M : Type 0} (wire : M → Wire) (layout : ℕ → Option (List Kind)) (message : Wire → M) → IsTable wire layout message
     → (bs : List ℕ) (a b : M) → IsSpelled bs (wire a) → IsSpelled bs (wire b) → a ≡ b
 one_value wire layout message table bs a b a_is b_is =
-    let letter : (wire a).letter ≡ (wire b).letter = sym (first_of bs (wire a) a_is) ∙ first_of bs (wire b) b_is in
+    let letter : (wire a).letter ≡ (wire b).letter = sym (first_byte bs (wire a) a_is) ∙ first_byte bs (wire b) b_is in
     let kinds : (wire a).kinds ≡ (wire b).kinds = some_same (wire a).kinds (wire b).kinds (sym (table.kinds a) ∙ ap layout letter ∙ table.kinds b) in
     let same : wire a ≡ wire b = (message_again (wire b).kinds bs (wire a) kinds a_is).same ∙ sym (message_again (wire b).kinds bs (wire b) refl b_is).same in
     sym (table.back a) ∙ ap message same ∙ table.back b

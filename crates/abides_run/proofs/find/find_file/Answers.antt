@@ -40,6 +40,9 @@ pub returns-in-Err-read_study-clause-fault : goal.returns-in-Err-read_study-clau
 returns-in-Err-read_study-clause-fault g c =
     λ failed. subst (λ (n : ℕ). Rose n (g.L.Library.faults c.read_study.new.library)) c.in-Ok.ensures.steady (c.in-Err-read_study.ensures.fault failed)
 
+pub returns-in-Err-read_study-clause-stands : goal.returns-in-Err-read_study-clause-stands
+returns-in-Err-read_study-clause-stands g c = λ other. c.in-Err-read_study.ensures.stands other ∙ c.in-Ok.ensures.steady
+
 pub returns-in-Err-read_study-clause-rises : goal.returns-in-Err-read_study-clause-rises
 returns-in-Err-read_study-clause-rises g c =
     subst (λ (n : ℕ). n ≤ g.L.Library.faults c.read_study.new.library) c.in-Ok.ensures.steady c.read_study.ensures.rises
@@ -55,6 +58,9 @@ returns-in-Err-fetch_further-clause-speaks g c =
 pub returns-in-Err-fetch_further-clause-fault : goal.returns-in-Err-fetch_further-clause-fault
 returns-in-Err-fetch_further-clause-fault g c =
     λ failed. subst (λ (n : ℕ). Rose n (g.L.Library.faults c.fetch_further.new.library)) (c.in-Ok-read_study.ensures.steady ∙ c.in-Ok.ensures.steady) (c.in-Err-fetch_further.ensures.fault failed)
+
+pub returns-in-Err-fetch_further-clause-stands : goal.returns-in-Err-fetch_further-clause-stands
+returns-in-Err-fetch_further-clause-stands g c = λ other. c.in-Err-fetch_further.ensures.stands other ∙ c.in-Ok-read_study.ensures.steady ∙ c.in-Ok.ensures.steady
 
 pub returns-in-Err-fetch_further-clause-rises : goal.returns-in-Err-fetch_further-clause-rises
 returns-in-Err-fetch_further-clause-rises g c =

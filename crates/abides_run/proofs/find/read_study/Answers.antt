@@ -8,7 +8,7 @@ use Rattle.abides_run.specs.Fetched.{series_after}
 use Rattle.abides_run.specs.Statuses.{Speaks}
 use Rattle.abides_run.specs.Ends.{IsSought}
 use Rattle.abides_run.specs.declared.status.Status.TheVariants as status
-use Rattle.abides_run.proofs.Come.{RulesRefuse, refused_ends, refused_silent, refused_sought, rules_refused, series_missed, silent_fault, study_behind, study_reads}
+use Rattle.abides_run.proofs.Come.{RulesRefuse, on_err, refused_ends, refused_silent, refused_sought, rules_refused, series_missed, silent_fault, study_behind, study_reads}
 use Rattle.abides_run.proofs.Speaking.{rules_speak, series_of_bytes}
 use Rattle.abides_run.proofs.find.read_study.Goals as goal
 
@@ -61,3 +61,6 @@ returns-clause-fault g c =
     silent_fault c.accept_study-study.result _
     (IfErr-weaker c.accept_study-study.result (λ (e : Ending). RulesRefuse x e.status) (λ (e : Ending). ¬ (e.status ≡ status.ReadFault))
     (λ e why. refused_silent x e.status why) c.accept_study-study.ensures.refused)
+
+pub returns-clause-stands : goal.returns-clause-stands
+returns-clause-stands g c = on_err c.accept_study-study.result _ (λ e other. c.in-Ok-fetch_series.ensures.steady)

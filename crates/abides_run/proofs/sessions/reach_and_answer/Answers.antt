@@ -6,7 +6,9 @@ use Rattle.session_desk.specs.Session.{first_session}
 use Rattle.session_desk.specs.Counted.{all_reached, surely_kept}
 use Rattle.session_desk.specs.Past.{past_act}
 use Rattle.study_rules.specs.Accepted.{study_told}
+use Rattle.abides_run.specs.Output.{least_reached, most_reached}
 use Rattle.abides_run.specs.Performed.{Sent}
+use Rattle.abides_run.specs.Placed.{possibly_kept}
 use Rattle.abides_run.specs.Sessions.{act_words}
 use Rattle.abides_run.proofs.Carrying.{acts-answered, acts-eventless, acts-wanting, told-past}
 use Rattle.abides_run.proofs.Performing.{sent_done}
@@ -34,13 +36,15 @@ returns g c =
     let s = study_told c.args.study.now in
     let acts = c.args.acts.now in
     let shelf = c.in-Ok.simulated.shelf in
-    let saved : all_reached (best shelf) (first_session k) acts ≤ all_reached (surely_kept k s.stride c.args.places) (first_session k) acts =
+    let saved : all_reached (best shelf) (first_session k) acts ≤ most_reached s c.args.places acts =
     c.nearer_states_leave_less.ensures (surely_kept k s.stride c.args.places) (best shelf) (first_session k) acts c.in-Ok.ensures.kept in
+    let needed : least_reached s c.args.places acts ≤ all_reached (best shelf) (first_session k) acts =
+    c.nearer_states_leave_less.ensures (best shelf) (possibly_kept k s.stride c.args.places) (first_session k) acts c.in-Ok.ensures.placed in
     λ reads. acts-answered acts c.args.places s _ _ _ _ _ c.nameless-2.result.status _
     c.in-Ok-carry_out.ensures.within c.nameless-2.ensures
     (sent_done _ _ _ _ reads (g.O.Sink.faults c.args.out.now) (g.O.Sink.faults c.send.new.out) c.args.steps.now c.carry_out.new.steps (g.O.Sink.taken c.args.out.now) (g.O.Sink.taken c.send.new.out)
     c.send.result c.sent_status.result c.sent_status.ensures.ok c.sent_status.ensures.refused
-    (omega (arith, c.in-Ok.ensures.rose, c.in-Ok-carry_out.ensures.rose)) (omega (arith, c.in-Ok.ensures.rose, c.in-Ok-carry_out.ensures.rose, saved)) (omega (arith, c.in-Ok.ensures.rose, c.carry_out.ensures.most))
+    (omega (arith, c.in-Ok.ensures.rose, c.in-Ok-carry_out.ensures.rose, needed)) (omega (arith, c.in-Ok.ensures.rose, c.in-Ok-carry_out.ensures.rose, saved, needed)) (omega (arith, c.in-Ok.ensures.rose, c.carry_out.ensures.most))
     (subst (λ (bytes : List ℕ). Sent bytes (g.O.Sink.faults c.args.out.now) (g.O.Sink.faults c.send.new.out) (g.O.Sink.taken c.args.out.now) (g.O.Sink.taken c.send.new.out) c.send.result)
     (c.deref-2.ensures.value ∙ c.in-Ok-carry_out.ensures.bytes) c.send.ensures))
 

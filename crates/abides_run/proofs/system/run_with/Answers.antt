@@ -10,7 +10,7 @@ returns-clause-ended g c =
       refused = answered.refused;
       still = answered.out_still;
       write_fault = answered.write_fault;
-      steady = λ ok. (answered.steady ok).1;
+      steady = answered.no_write_fault;
     }
 
 pub returns-clause-asked : goal.returns-clause-asked

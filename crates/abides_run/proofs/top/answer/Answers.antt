@@ -1,6 +1,7 @@
-use Rattle.std.proofs.Common.{refl, string_bytes}
+use Rattle.std.proofs.Common.{◌≡◌, ◌∙◌, refl, string_bytes, sym}
 use Rattle.abides_run.specs.AllFound.{arguments_on, verdict_on_all}
 use Rattle.abides_run.specs.Words.{texts}
+use Rattle.abides_run.specs.declared.status.Status.TheVariants as status
 use Rattle.abides_run.proofs.Answered.{ended_early, finished_answers}
 use Rattle.abides_run.proofs.Speaking.{finished_is_named}
 use Rattle.abides_run.proofs.top.answer.Goals as goal
@@ -26,4 +27,12 @@ returns-in-Err-clause-answered g c =
     let e = c.in-Err.ending in
     let says = c.in-Err.ensures in
     ended_early (g.L.Library.files c.args.library.now) (texts c.args.words.now) _ (string_bytes e.name) (g.L.Library.faults c.args.library.now) (g.L.Library.faults c.find_asked.new.library) (g.O.Sink.faults c.args.out.now) c.args.steps.now (g.O.Sink.taken c.args.out.now) e.status
-    says.sought says.ended says.usage says.not_asked says.unasked c.find_asked.ensures.unread says.fault c.find_asked.ensures.rises
+    says.sought says.ended says.usage says.not_asked says.stands c.find_asked.ensures.unread says.fault c.find_asked.ensures.rises
+
+pub returns-in-Ok-clause-wanting : goal.returns-in-Ok-clause-wanting
+returns-in-Ok-clause-wanting g c =
+    λ wants. (c.in-Ok.ensures.steady, (c.perform.ensures 0).steady (λ fault. let other : status.Memory ≡ status.WriteFault = sym wants ∙ fault in cc))
+
+pub returns-in-Err-clause-wanting : goal.returns-in-Err-clause-wanting
+returns-in-Err-clause-wanting g c =
+    λ wants. (c.in-Err.ensures.stands (λ fault. let other : status.Memory ≡ status.ReadFault = sym wants ∙ fault in cc), refl)

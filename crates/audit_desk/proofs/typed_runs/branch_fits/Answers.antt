@@ -17,7 +17,7 @@ returns g c =
     let k : CourseTold = c.args.course.now in
     let b = c.args.branch in
     let e = segment_end k.opening k.plan (segment_at k.plan c.last_segment-last.result) in
-    let course = c.is_course.ensures in
+    let course = c.know_course.ensures in
     let whole : e ≡ full_run k.opening k.plan b =
     ap (λ (n : ℕ). segment_end k.opening k.plan (segment_at k.plan n)) c.last_segment-last.ensures.last
     ∙ sym (full-last k.opening k.plan b (course-tree k course) course.limit c.requires.branch) in

@@ -1,13 +1,15 @@
-use Rattle.std.proofs.Common.{◌<◌, Some}
+use Rattle.std.proofs.Common.{◌≡◌, ◌<◌, ◌≤◌, List, Option, Some, None, IfSome, All, refl}
 use Rattle.market_types.specs.declared.message.Message.{Message}
-use Rattle.event_queue.proofs.Kept.{all-joined, all-least, all-popped}
+use Rattle.event_queue.specs.Waiting.{least}
+use Rattle.event_queue.proofs.Kept.{all-delayed, all-least}
 use Rattle.base_tests.proofs.event_queue_tests.put_back.Goals as goal
 
 pub returns-clause-before : goal.returns-clause-before
 returns-clause-before c =
-    let P : Message → Type 0 = λ m. m.seq < c.args.next in
-    let m = c.in_ok-m.m in
-    let popped = c.in_ok-m.ensures in
-    let kept = all-popped P (Some m) c.args.queue.now c.pop_least.new.self popped.left popped.empty c.requires.before in
-    let low = all-least P c.args.queue.now.list m popped.least c.requires.before in
-    rw c.push.ensures.joins (all-joined P (record { time = c.args.time; seq = m.seq; from = m.from; to = m.to; body = m.body }) c.pop_least.new.self.list low kept)
+    let e = c.delay_least.ensures in
+    let w = c.args.queue.now.list in
+    all-delayed (λ (m : Message). m.seq < c.args.next) c.args.time (least w) c.args.queue.now c.delay_least.new.self e.delayed e.empty (low w (least w) refl c.requires.before) c.requires.before
+  where
+    low : (w : List Message) (o : Option Message) → o ≡ least w → All (λ (m : Message). m.seq < c.args.next) w → IfSome o (λ (m : Message). m.seq < c.args.next)
+    low w (Some m) h a = all-least (λ (x : Message). x.seq < c.args.next) w m h a
+    low w None h a = tt

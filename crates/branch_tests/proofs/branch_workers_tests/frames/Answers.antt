@@ -9,7 +9,7 @@ use Rattle.branch_tests.proofs.branch_workers_tests.frames.Goals as goal
 pub frames_of-bytes-requires : goal.frames_of-bytes-requires
 frames_of-bytes-requires g c =
     let k : CourseTold = c.args.course.now.value in
-    let course = subst IsCourse c.deref.ensures c.is_course.ensures in
+    let course = subst IsCourse c.deref.ensures c.know_course.ensures in
     let os = c.in-Ok.worked.outcomes.items in
     moved c.as_slice.result.now os c.as_slice.ensures.value (λ (o : Outcome). IsWritable (kept_told o.kept))
     (outcomes_timely k c.args.keep (λ s l. c.courses_stay_in_range.ensures.segments k s course l) os c.in-Ok.ensures.outcomes)

@@ -21,7 +21,7 @@ run_all-requires-clause-work g c = λ κs lives.
     let ws = c.in-Ok-staff.workers.items in
     let made = c.in-Ok-staff.ensures in
     moved c.as_mut_slice.result.now ws c.as_mut_slice.ensures.value (λ w. IsAtWork k c.args.shift.now.keep sh w.number w.seat w.steps w.outcomes.items w.lane.own.view.pushed)
-    (ready ws k c.args.shift.now.keep sh (λ w. w.seat) (λ w. w.steps) (λ w. w.number) (λ w. w.outcomes) (λ w. w.lane) (λ w. w.finished) (subst IsCourse c.deref.ensures c.is_course.ensures) ws
+    (ready ws k c.args.shift.now.keep sh (λ w. w.seat) (λ w. w.steps) (λ w. w.number) (λ w. w.outcomes) (λ w. w.lane) (λ w. w.finished) (subst IsCourse c.deref.ensures c.know_course.ensures) ws
     c.args.seats.items made.seats c.requires.new made.numbers c.in-Ok.lanes.items made.lanes
     (subst (λ (x : CourseTold). All (λ (l : LaneTold). HasPushed x.plan [] l.own.view.pushed) c.in-Ok.lanes.items) c.deref-2.ensures c.in-Ok.ensures.pushed) made.idle)
 

@@ -23,7 +23,7 @@ returns-then-events-key-clause-ended g c = λ e passed.
     let s = c.args.key.segment in
     let e = c.args.key.event in
     let x : RanTold = ran_told c.continue_to.new.ran in
-    let course : IsCourse k = subst IsCourse c.deref.ensures c.is_course.ensures in
+    let course : IsCourse k = subst IsCourse c.deref.ensures c.know_course.ensures in
     let events = passed_events k s course c.requires.segment c.args.shift.now.keep e x c.in-Ok.ensures.ran passed in
     absurd (omega (arith, c.events.ensures, c.if-events-key.true))
 
@@ -33,7 +33,7 @@ returns-then-events-key-clause-known g c = λ sole passed.
     let s = c.args.key.segment in
     let e = c.args.key.event in
     let x : RanTold = ran_told c.continue_to.new.ran in
-    let course : IsCourse k = subst IsCourse c.deref.ensures c.is_course.ensures in
+    let course : IsCourse k = subst IsCourse c.deref.ensures c.know_course.ensures in
     let events = passed_events k s course c.requires.segment c.args.shift.now.keep e x c.in-Ok.ensures.ran passed in
     absurd (omega (arith, c.events.ensures, c.if-events-key.true))
 
@@ -43,7 +43,7 @@ shelve_copy-requires-clause-key g c =
     let s = c.args.key.segment in
     let e = c.args.key.event in
     let x : RanTold = ran_told c.continue_to.new.ran in
-    let course : IsCourse k = subst IsCourse c.deref.ensures c.is_course.ensures in
+    let course : IsCourse k = subst IsCourse c.deref.ensures c.know_course.ensures in
     let events : x.state.events ≡ e = omega (arith, c.events.ensures, c.if-events-key.false) in
     let key = number_is_key k s course c.requires.segment e c.requires.begins c.requires.within c.args.shift.now.keep x c.in-Ok.ensures.ran events in
     record { segment = key.segment; event = key.event }
@@ -54,7 +54,7 @@ shelve_copy-requires-clause-state g c =
     let s = c.args.key.segment in
     let e = c.args.key.event in
     let x : RanTold = ran_told c.continue_to.new.ran in
-    let course : IsCourse k = subst IsCourse c.deref.ensures c.is_course.ensures in
+    let course : IsCourse k = subst IsCourse c.deref.ensures c.know_course.ensures in
     let events : x.state.events ≡ e = omega (arith, c.events.ensures, c.if-events-key.false) in
     state_there k s course c.requires.segment e c.requires.begins c.requires.within c.args.shift.now.keep x c.in-Ok.ensures.ran events
 

@@ -29,7 +29,7 @@ pass_grid-requires-clause-underway g c =
 pub pass_grid-requires-clause-begins : goal.pass_grid-requires-clause-begins
 pass_grid-requires-clause-begins g c =
     let k : CourseTold = c.args.shift.now.course.now.value in
-    ap (λ (r : Run). r.state.events) c.in-Ok.ensures.state ∙ first_events k c.args.segment (subst IsCourse c.deref.ensures c.is_course.ensures) c.requires.segment
+    ap (λ (r : Run). r.state.events) c.in-Ok.ensures.state ∙ first_events k c.args.segment (subst IsCourse c.deref.ensures c.know_course.ensures) c.requires.segment
 
 pub continue_to-requires-clause-most : goal.continue_to-requires-clause-most
 continue_to-requires-clause-most g c =
@@ -45,7 +45,7 @@ pub returns-in_default-pass_grid-clause-most : goal.returns-in_default-pass_grid
 returns-in_default-pass_grid-clause-most g c =
     let k : CourseTold = c.args.shift.now.course.now.value in
     let first = ap (λ (r : Run). r.state.events) c.in-Ok.ensures.state in
-    let course : IsCourse k = subst IsCourse c.deref.ensures c.is_course.ensures in
+    let course : IsCourse k = subst IsCourse c.deref.ensures c.know_course.ensures in
     let own = own-is k.opening k.plan c.args.segment (course-tree k course) course.limit c.requires.segment in
     omega (arith, c.pass_grid.ensures.few, c.pass_grid.ensures.ticks)
 
@@ -53,7 +53,7 @@ pub returns-in_default-continue_to-clause-most : goal.returns-in_default-continu
 returns-in_default-continue_to-clause-most g c =
     let k : CourseTold = c.args.shift.now.course.now.value in
     let first = ap (λ (r : Run). r.state.events) c.in-Ok.ensures.state in
-    let course : IsCourse k = subst IsCourse c.deref.ensures c.is_course.ensures in
+    let course : IsCourse k = subst IsCourse c.deref.ensures c.know_course.ensures in
     let own = own-is k.opening k.plan c.args.segment (course-tree k course) course.limit c.requires.segment in
     omega (arith, c.continue_to.ensures.few, c.pass_grid.ensures.ticks, c.continue_to.ensures.ticks)
 
@@ -62,7 +62,7 @@ returns-clause-ran g c =
     let k : CourseTold = c.args.shift.now.course.now.value in
     let keep = c.args.shift.now.keep in
     let s = c.args.segment in
-    let course : IsCourse k = subst IsCourse c.deref.ensures c.is_course.ensures in
+    let course : IsCourse k = subst IsCourse c.deref.ensures c.know_course.ensures in
     let most = ap (λ (o : Opening). o.limit) c.opening.ensures.value ∙ ap (λ (x : CourseTold). x.opening.limit) c.deref-2.ensures in
     c.in-Ok-continue_to.ensures.ran
     ∙ ap (λ (m : ℕ). ran_as keep (until_part k.opening (segment_at k.plan s).stop m (run_at_start k s))) most
@@ -74,7 +74,7 @@ returns-clause-rose g c =
     let keep = c.args.shift.now.keep in
     let s = c.args.segment in
     let first = ap (λ (r : Run). r.state.events) c.in-Ok.ensures.state in
-    let course : IsCourse k = subst IsCourse c.deref.ensures c.is_course.ensures in
+    let course : IsCourse k = subst IsCourse c.deref.ensures c.know_course.ensures in
     let most = ap (λ (o : Opening). o.limit) c.opening.ensures.value ∙ ap (λ (x : CourseTold). x.opening.limit) c.deref-2.ensures in
     let last = ap (λ (x : RanTold). x.state.events)
     (c.in-Ok-continue_to.ensures.ran
@@ -87,7 +87,7 @@ pub returns-clause-most : goal.returns-clause-most
 returns-clause-most g c =
     let k : CourseTold = c.args.shift.now.course.now.value in
     let first = ap (λ (r : Run). r.state.events) c.in-Ok.ensures.state in
-    let course : IsCourse k = subst IsCourse c.deref.ensures c.is_course.ensures in
+    let course : IsCourse k = subst IsCourse c.deref.ensures c.know_course.ensures in
     let own = own-is k.opening k.plan c.args.segment (course-tree k course) course.limit c.requires.segment in
     omega (arith, c.continue_to.ensures.few, c.pass_grid.ensures.ticks, c.continue_to.ensures.ticks)
 

@@ -13,7 +13,7 @@ use Rattle.branch_workers.proofs.segment.run_segment.Goals as goal
 pub shelve_end-requires-clause-state : goal.shelve_end-requires-clause-state
 shelve_end-requires-clause-state g c =
     let x : RanTold = ran_told c.in-Ok.ran in
-    ran-ends c.args.shift.now.course.now.value c.args.shift.now.keep c.args.segment x (subst IsCourse c.deref.ensures c.is_course.ensures) c.requires.segment c.in-Ok.ensures.ran
+    ran-ends c.args.shift.now.course.now.value c.args.shift.now.keep c.args.segment x (subst IsCourse c.deref.ensures c.know_course.ensures) c.requires.segment c.in-Ok.ensures.ran
 
 pub returns-clause-outcome : goal.returns-clause-outcome
 returns-clause-outcome g c =
@@ -21,7 +21,7 @@ returns-clause-outcome g c =
     let x : RanTold = ran_told c.in-Ok.ran in
     let opening = c.opening.ensures.value ∙ ap (λ (x : CourseTold). x.opening) c.deref-2.ensures in
     let tells = c.in-Ok-outcome_at.ensures in
-    outcome-is k c.args.shift.now.keep c.args.segment x _ _ _ _ (subst IsCourse c.deref.ensures c.is_course.ensures) c.requires.segment c.in-Ok.ensures.ran tells.segment tells.kept tells.events
+    outcome-is k c.args.shift.now.keep c.args.segment x _ _ _ _ (subst IsCourse c.deref.ensures c.know_course.ensures) c.requires.segment c.in-Ok.ensures.ran tells.segment tells.kept tells.events
     (tells.closing ∙ ap (λ (o : Opening). closing_at o c.in-Ok.ran.kernel) opening)
 
 pub returns-in_default-clause-remains : goal.returns-in_default-clause-remains

@@ -1,8 +1,7 @@
 use Rattle.std.proofs.Common.{◌≡◌, ◌<◌, true, false, length, arith, refl, rules, ap, sym, ◌∙◌}
 use Rattle.std.specs.Ordering.{is_lt}
 use Rattle.std.specs.BinaryHeap.{heap_items}
-use Rattle.event_queue.specs.declared.due.Due.{Due}
-use Rattle.event_queue.specs.Dues.{by_due}
+use Rattle.event_queue.specs.Keys.{Due, by_due}
 use Rattle.std.proofs.lemmas.Bool.Decides.{nat_tests}
 use Rattle.event_queue.proofs.Keys.{ahead}
 use Rattle.event_queue.proofs.heaps.is_ahead.Goals as goal

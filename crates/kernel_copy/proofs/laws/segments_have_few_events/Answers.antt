@@ -7,10 +7,10 @@ use Rattle.kernel_copy.proofs.laws.segments_have_few_events.Goals as goal
 
 pub returns-clause-each : goal.returns-clause-each
 returns-clause-each c s below =
-    own-bound c.args.course.now.value s (subst IsCourse c.deref.ensures c.is_course.ensures) below
+    own-bound c.args.course.now.value s (subst IsCourse c.deref.ensures c.know_course.ensures) below
 
 pub returns-clause-all : goal.returns-clause-all
 returns-clause-all c =
     let k : CourseTold = c.args.course.now.value in
     let plan = c.plan.ensures.value ∙ ap (λ (x : CourseTold). x.plan) c.deref-2.ensures in
-    distinct-bound k (subst IsCourse c.deref.ensures c.is_course.ensures) (subst (λ (p : Plan). length (segments_in p) < 2 ^ 32) plan c.is_tree.ensures.few)
+    distinct-bound k (subst IsCourse c.deref.ensures c.know_course.ensures) (subst (λ (p : Plan). length (segments_in p) < 2 ^ 32) plan c.is_tree.ensures.few)

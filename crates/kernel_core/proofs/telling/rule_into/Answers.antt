@@ -9,13 +9,13 @@ use Rattle.kernel_core.proofs.telling.rule_into.Goals as goal
 pub returns-then-not-is_due-clause-floor : goal.returns-then-not-is_due-clause-floor
 returns-then-not-is_due-clause-floor c =
     let o = c.args.o.now in
-    let none : dated_by o.dated c.args.time ≤ c.args.applied = not-due c.args.applied (dated_by o.dated c.args.time) c.is_due.result c.is_due.ensures c.if-not-is_due.true in
+    let none : dated_by o.dated c.args.time ≤ c.args.applied = not-due c.args.applied (dated_by o.dated c.args.time) c.args.is_due c.requires.due c.if-not-is_due.true in
     ruled-none o c.args.applied c.args.time c.args.floor.now none
 
 pub returns-then-not-is_due-clause-feed : goal.returns-then-not-is_due-clause-feed
 returns-then-not-is_due-clause-feed c =
     let o = c.args.o.now in
-    let none : dated_by o.dated c.args.time ≤ c.args.applied = not-due c.args.applied (dated_by o.dated c.args.time) c.is_due.result c.is_due.ensures c.if-not-is_due.true in
+    let none : dated_by o.dated c.args.time ≤ c.args.applied = not-due c.args.applied (dated_by o.dated c.args.time) c.args.is_due c.requires.due c.if-not-is_due.true in
     ap (λ (l : Room Feed). l.list) c.clear.ensures ∙ untold-none o c.args.applied c.args.time c.args.floor.now none
 
 pub returns-then-not-is_due-clause-times : goal.returns-then-not-is_due-clause-times

@@ -5,14 +5,14 @@ use Rattle.price_time_book.specs.declared.resting.Fill.{Fill}
 use Rattle.price_time_book.specs.declared.resting.Resting.{Resting}
 use Rattle.price_time_book.specs.Indexed.{IsIndexed, nothing, open_orders}
 use Rattle.price_time_book.specs.Matched.{fill_of}
-use Rattle.price_time_book.specs.Queues.{first_of, hidden_of, shown_of}
+use Rattle.price_time_book.specs.Queues.{first_on, hidden_of, shown_of}
 use Rattle.price_time_book.proofs.Sides.{hidden_apart, shown_apart}
 use Rattle.price_time_book.proofs.Takes.{next_beyond, next_is, next_none, placed_seen, top_seen}
 use Rattle.price_time_book.proofs.lowering.take_first.Goals as goal
 
 pub returns-in_err-first-clause-next : goal.returns-in_err-first-clause-next
 returns-in_err-first-clause-next c =
-    let none = subst (λ (w : List Resting). first_of c.args.mine (open_orders w) ≡ None) c.as_slice.ensures.value c.in_err-first.ensures.first in
+    let none = subst (λ (w : List Resting). first_on c.args.mine (open_orders w) ≡ None) c.as_slice.ensures.value c.in_err-first.ensures.first in
     c.from_residual.ensures ∙ sym (ap (option_map (fill_of c.args.shares)) (next_none c.args.side c.args.mine c.args.limit (open_orders c.args.orders.now.items) c.requires.side none))
 
 pub returns-then-not-is_within-clause-next : goal.returns-then-not-is_within-clause-next
@@ -31,7 +31,7 @@ give-requires-clause-place c =
     let os = c.args.orders.now.items in
     let i = c.in_ok-first.first.place in
     let seen = c.as_slice.ensures.value in
-    let ls = c.first_of.new.half.shown.items in
+    let ls = c.first_on.new.half.shown.items in
     placed_seen (shown_of c.args.mine) c.as_slice.result.now os ls ls c.in_ok-first.first.level i seen refl (c.in_ok-first.ensures.shown_placed c.if-first.true)
 
 pub returns-then-first-clause-next : goal.returns-then-first-clause-next
@@ -48,7 +48,7 @@ returns-then-first-clause-next c =
 
 pub returns-then-first-clause-hidden : goal.returns-then-first-clause-hidden
 returns-then-first-clause-hidden c =
-    c.give.ensures.others (hidden_of c.args.mine) c.first_of.new.half.hidden.items (hidden_apart c.args.mine c.args.mine) (subst (λ (w : List Resting). IsIndexed (hidden_of c.args.mine) w c.args.nexts.now c.first_of.new.half.hidden.items) c.as_slice.ensures.value c.first_of.ensures.hidden)
+    c.give.ensures.others (hidden_of c.args.mine) c.first_on.new.half.hidden.items (hidden_apart c.args.mine c.args.mine) (subst (λ (w : List Resting). IsIndexed (hidden_of c.args.mine) w c.args.nexts.now c.first_on.new.half.hidden.items) c.as_slice.ensures.value c.first_on.ensures.hidden)
 
 pub returns-then-first-clause-others : goal.returns-then-first-clause-others
 returns-then-first-clause-others c = λ t ms n x. c.give.ensures.others t ms (λ e. n (ap (λ (r : Queue). r.side) e)) x
@@ -58,7 +58,7 @@ give-requires-2-clause-place c =
     let os = c.args.orders.now.items in
     let i = c.in_ok-first.first.place in
     let seen = c.as_slice.ensures.value in
-    let ls = c.first_of.new.half.hidden.items in
+    let ls = c.first_on.new.half.hidden.items in
     placed_seen (hidden_of c.args.mine) c.as_slice.result.now os ls ls c.in_ok-first.first.level i seen refl (c.in_ok-first.ensures.hidden_placed c.if-first.false)
 
 pub returns-clause-next : goal.returns-clause-next
@@ -75,25 +75,25 @@ returns-clause-next c =
 
 pub returns-clause-shown : goal.returns-clause-shown
 returns-clause-shown c =
-    c.give-2.ensures.others (shown_of c.args.mine) c.first_of.new.half.shown.items (shown_apart c.args.mine c.args.mine) (subst (λ (w : List Resting). IsIndexed (shown_of c.args.mine) w c.args.nexts.now c.first_of.new.half.shown.items) c.as_slice.ensures.value c.first_of.ensures.shown)
+    c.give-2.ensures.others (shown_of c.args.mine) c.first_on.new.half.shown.items (shown_apart c.args.mine c.args.mine) (subst (λ (w : List Resting). IsIndexed (shown_of c.args.mine) w c.args.nexts.now c.first_on.new.half.shown.items) c.as_slice.ensures.value c.first_on.ensures.shown)
 
 pub returns-clause-others : goal.returns-clause-others
 returns-clause-others c = λ t ms n x. c.give-2.ensures.others t ms (λ e. n (ap (λ (r : Queue). r.side) e)) x
 
 pub give-requires-clause-indexed : goal.give-requires-clause-indexed
-give-requires-clause-indexed c = subst (λ (w : List Resting). IsIndexed (shown_of c.args.mine) w c.args.nexts.now c.first_of.new.half.shown.items) c.as_slice.ensures.value c.first_of.ensures.shown
+give-requires-clause-indexed c = subst (λ (w : List Resting). IsIndexed (shown_of c.args.mine) w c.args.nexts.now c.first_on.new.half.shown.items) c.as_slice.ensures.value c.first_on.ensures.shown
 
 pub give-requires-clause-count : goal.give-requires-clause-count
-give-requires-clause-count c = c.first_of.ensures.count ∙ c.requires.count
+give-requires-clause-count c = c.first_on.ensures.count ∙ c.requires.count
 
 pub give-requires-clause-orderly : goal.give-requires-clause-orderly
 give-requires-clause-orderly c = c.requires.orderly
 
 pub give-requires-2-clause-indexed : goal.give-requires-2-clause-indexed
-give-requires-2-clause-indexed c = subst (λ (w : List Resting). IsIndexed (hidden_of c.args.mine) w c.args.nexts.now c.first_of.new.half.hidden.items) c.as_slice.ensures.value c.first_of.ensures.hidden
+give-requires-2-clause-indexed c = subst (λ (w : List Resting). IsIndexed (hidden_of c.args.mine) w c.args.nexts.now c.first_on.new.half.hidden.items) c.as_slice.ensures.value c.first_on.ensures.hidden
 
 pub give-requires-2-clause-count : goal.give-requires-2-clause-count
-give-requires-2-clause-count c = c.first_of.ensures.count ∙ c.requires.count
+give-requires-2-clause-count c = c.first_on.ensures.count ∙ c.requires.count
 
 pub give-requires-2-clause-orderly : goal.give-requires-2-clause-orderly
 give-requires-2-clause-orderly c = c.requires.orderly
@@ -159,13 +159,13 @@ pub returns-clause-hidden : goal.returns-clause-hidden
 returns-clause-hidden c = c.give-2.ensures.indexed
 
 pub returns-then-not-is_within-clause-shown : goal.returns-then-not-is_within-clause-shown
-returns-then-not-is_within-clause-shown c = subst (λ (w : List Resting). IsIndexed (shown_of c.args.mine) w c.args.nexts.now c.first_of.new.half.shown.items) c.as_slice.ensures.value c.first_of.ensures.shown
+returns-then-not-is_within-clause-shown c = subst (λ (w : List Resting). IsIndexed (shown_of c.args.mine) w c.args.nexts.now c.first_on.new.half.shown.items) c.as_slice.ensures.value c.first_on.ensures.shown
 
 pub returns-then-not-is_within-clause-hidden : goal.returns-then-not-is_within-clause-hidden
-returns-then-not-is_within-clause-hidden c = subst (λ (w : List Resting). IsIndexed (hidden_of c.args.mine) w c.args.nexts.now c.first_of.new.half.hidden.items) c.as_slice.ensures.value c.first_of.ensures.hidden
+returns-then-not-is_within-clause-hidden c = subst (λ (w : List Resting). IsIndexed (hidden_of c.args.mine) w c.args.nexts.now c.first_on.new.half.hidden.items) c.as_slice.ensures.value c.first_on.ensures.hidden
 
 pub returns-then-not-is_within-clause-count : goal.returns-then-not-is_within-clause-count
-returns-then-not-is_within-clause-count c = c.first_of.ensures.count ∙ c.requires.count
+returns-then-not-is_within-clause-count c = c.first_on.ensures.count ∙ c.requires.count
 
 pub returns-then-not-is_within-clause-orderly : goal.returns-then-not-is_within-clause-orderly
 returns-then-not-is_within-clause-orderly c = c.requires.orderly
@@ -180,13 +180,13 @@ pub returns-then-not-is_within-clause-other_count : goal.returns-then-not-is_wit
 returns-then-not-is_within-clause-other_count c = λ t n. refl
 
 pub returns-in_err-first-clause-shown : goal.returns-in_err-first-clause-shown
-returns-in_err-first-clause-shown c = subst (λ (w : List Resting). IsIndexed (shown_of c.args.mine) w c.args.nexts.now c.first_of.new.half.shown.items) c.as_slice.ensures.value c.first_of.ensures.shown
+returns-in_err-first-clause-shown c = subst (λ (w : List Resting). IsIndexed (shown_of c.args.mine) w c.args.nexts.now c.first_on.new.half.shown.items) c.as_slice.ensures.value c.first_on.ensures.shown
 
 pub returns-in_err-first-clause-hidden : goal.returns-in_err-first-clause-hidden
-returns-in_err-first-clause-hidden c = subst (λ (w : List Resting). IsIndexed (hidden_of c.args.mine) w c.args.nexts.now c.first_of.new.half.hidden.items) c.as_slice.ensures.value c.first_of.ensures.hidden
+returns-in_err-first-clause-hidden c = subst (λ (w : List Resting). IsIndexed (hidden_of c.args.mine) w c.args.nexts.now c.first_on.new.half.hidden.items) c.as_slice.ensures.value c.first_on.ensures.hidden
 
 pub returns-in_err-first-clause-count : goal.returns-in_err-first-clause-count
-returns-in_err-first-clause-count c = c.first_of.ensures.count ∙ c.requires.count
+returns-in_err-first-clause-count c = c.first_on.ensures.count ∙ c.requires.count
 
 pub returns-in_err-first-clause-orderly : goal.returns-in_err-first-clause-orderly
 returns-in_err-first-clause-orderly c = c.requires.orderly

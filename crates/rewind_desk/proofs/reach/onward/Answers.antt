@@ -6,7 +6,7 @@ use Rattle.rewind_desk.proofs.reach.onward.Goals as goal
 pub returns-then-before-clause-at : goal.returns-then-before-clause-at
 returns-then-before-clause-at g c =
     let k : CourseTold = c.args.course.now in
-    at-parent k c.args.segment c.args.parent c.args.event c.args.before.kernel c.args.before.has_more c.is_course.ensures c.requires.segment c.requires.parent c.if-before.true c.requires.at
+    at-parent k c.args.segment c.args.parent c.args.event c.args.before.kernel c.args.before.has_more c.know_course.ensures c.requires.segment c.requires.parent c.if-before.true c.requires.at
 
 pub returns-then-before-clause-most : goal.returns-then-before-clause-most
 returns-then-before-clause-most g c =

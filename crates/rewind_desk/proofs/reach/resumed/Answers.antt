@@ -23,7 +23,7 @@ returns-clause-fits c =
     let kept = c.deref.result.now in
     let told = c.in-Some.ensures.some in
     let key : IsKeyOf k n.key = subst (λ (x : CourseTold). IsKeyOf x n.key) c.requires.shelf c.requires.near.key in
-    let course = c.is_course.ensures in
+    let course = c.know_course.ensures in
     let same : state_at kept.course kept.key ≡ state_at k n.key =
     ap (λ (x : CourseTold). state_at x kept.key) (ap (λ x. x.course) c.deref.ensures ∙ told.2 ∙ c.requires.shelf)
     ∙ ap (λ (x : Key). state_at k x) (ap (λ x. x.key) c.deref.ensures ∙ told.1) in
@@ -43,7 +43,7 @@ returns-clause-on c =
     ap (λ (x : CourseTold). state_at x kept.key) (ap (λ x. x.course) c.deref.ensures ∙ told.2 ∙ c.requires.shelf)
     ∙ ap (λ (x : Key). state_at k x) (ap (λ x. x.key) c.deref.ensures ∙ told.1) in
     IfOk-weaker c.resume.result (λ x. x ≡ state_at kept.course kept.key) (λ x. RunsOn k n.key.segment x)
-    (λ x is. subst (λ (s : State). RunsOn k n.key.segment s) (sym (is ∙ same)) (from-key k n.key c.is_course.ensures key)) c.resume.ensures.state
+    (λ x is. subst (λ (s : State). RunsOn k n.key.segment s) (sym (is ∙ same)) (from-key k n.key c.know_course.ensures key)) c.resume.ensures.state
 
 pub returns-clause-events : goal.returns-clause-events
 returns-clause-events c =

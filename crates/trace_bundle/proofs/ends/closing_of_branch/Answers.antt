@@ -16,14 +16,14 @@ returns-clause-value g c =
     let k : CourseTold = c.args.course.now in
     let s = c.last_segment.result in
     c.closing.ensures ∙ c.requires.ran.closing s c.last_segment.ensures.exists
-    ∙ ap (λ (r : Run). closing_at k.opening r.state) (full-end k c.args.branch s c.is_course.ensures c.requires.branch c.last_segment.ensures.last)
+    ∙ ap (λ (r : Run). closing_at k.opening r.state) (full-end k c.args.branch s c.know_course.ensures c.requires.branch c.last_segment.ensures.last)
 
 pub returns-clause-few : goal.returns-clause-few
 returns-clause-few g c =
     let k : CourseTold = c.args.course.now in
     let s = c.last_segment.result in
     let state = (segment_end k.opening k.plan (segment_at k.plan s)).state in
-    let course = c.is_course.ensures in
+    let course = c.know_course.ensures in
     let reached = c.courses_stay_in_range.ensures.ends k s course c.last_segment.ensures.exists in
     let few : length state.floor.exchange.stocks ≤ 16 = omega (arith, course.opening.market.few, reached.fits.stocks) in
     let all = All-weaker (λ (a : ClosingAgent). length a.positions ≡ length state.floor.exchange.stocks) HasFewPositions
@@ -34,7 +34,7 @@ pub returns-clause-early : goal.returns-clause-early
 returns-clause-early g c =
     let k : CourseTold = c.args.course.now in
     let s = c.last_segment.result in
-    let course = c.is_course.ensures in
+    let course = c.know_course.ensures in
     let reached = c.courses_stay_in_range.ensures.ends k s course c.last_segment.ensures.exists in
     let state = (segment_end k.opening k.plan (segment_at k.plan s)).state in
     let time : c.closing.result.now.counts.time ≡ state.time = ap (λ (x : Closing). x.counts.time) (c.closing.ensures ∙ c.requires.ran.closing s c.last_segment.ensures.exists) in

@@ -5,7 +5,7 @@ pub send_bundle-requires-clause-own : goal.send_bundle-requires-clause-own
 send_bundle-requires-clause-own g c = tallies-own c.args.course.now c.in_ok-segments.segments.tallies.items c.in_ok-segments.ensures
 
 pub returns-clause-count : goal.returns-clause-count
-returns-clause-count g c = bundle-count c.args.course.now c.new-tally.result c.send_bundle.new.to c.is_course.ensures c.new-tally.ensures c.in_ok-send_bundle.ensures
+returns-clause-count g c = bundle-count c.args.course.now c.new-tally.result c.send_bundle.new.to c.know_course.ensures c.new-tally.ensures c.in_ok-send_bundle.ensures
 
 pub returns-clause-total : goal.returns-clause-total
-returns-clause-total g c = bundle-total c.args.course.now c.new-tally.result c.send_bundle.new.to c.is_course.ensures c.new-tally.ensures c.in_ok-send_bundle.ensures
+returns-clause-total g c = bundle-total c.args.course.now c.new-tally.result c.send_bundle.new.to c.know_course.ensures c.new-tally.ensures c.in_ok-send_bundle.ensures

@@ -6,7 +6,7 @@ pub segment-requires-clause-writable : goal.segment-requires-clause-writable
 segment-requires-clause-writable g c =
     let k = c.args.course.now in
     let s = c.args.segment in
-    own-writable k _ _ _ s _ c.requires.ran c.requires.segment c.kept.ensures (c.courses_stay_in_range.ensures.segments k s c.is_course.ensures c.requires.segment)
+    own-writable k _ _ _ s _ c.requires.ran c.requires.segment c.kept.ensures (c.courses_stay_in_range.ensures.segments k s c.know_course.ensures c.requires.segment)
 
 pub segment-requires-clause-own : goal.segment-requires-clause-own
 segment-requires-clause-own g c =

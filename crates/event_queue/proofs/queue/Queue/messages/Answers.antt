@@ -6,7 +6,7 @@ use Rattle.std.proofs.lemmas.List.Sorted.{answers_always, IsPermutation-sym, IsP
 use Rattle.market_types.specs.Room.{Room}
 use Rattle.market_types.specs.declared.message.Message.{Message}
 use Rattle.event_queue.specs.InOrder.{in_order}
-use Rattle.event_queue.specs.declared.due.Due.{Due}
+use Rattle.event_queue.specs.Keys.{Due, all_of}
 use Rattle.event_queue.specs.Dues.{held}
 use Rattle.event_queue.specs.Numbered.{by_number}
 use Rattle.event_queue.specs.Waiting.{before}
@@ -22,7 +22,7 @@ not_before a b h = grind (arith, nat_tests)
 pub listed-requires : goal.listed-requires
 listed-requires c =
     let slots = c.self.inside.slots.items in
-    let v = c.self.inside.heaps.list in
+    let v = (all_of c.self.inside.heaps) in
     let within = held-within slots c.self.inside.free.items v c.self.invariant.shared_out in
     subst (λ (s : List Message). All (λ (d : Due). d.slot < length s) v) (sym c.as_slice.ensures.value) within
 
@@ -33,7 +33,7 @@ returns-clause-sorted c = λ k d low high.
 
 pub returns-clause-same : goal.returns-clause-same
 returns-clause-same c =
-    let u = held c.self.inside.slots.items (c.self.inside.heaps.list) in
+    let u = held c.self.inside.slots.items (all_of c.self.inside.heaps) in
     let v = c.sort_unstable_by_key.new.self.items in
     let copied : c.in_ok-messages.messages.items ≡ u = search rules in
     let moved = subst (λ (w : List Message). IsPermutation w v) copied c.sort_unstable_by_key.ensures.permutation in
@@ -42,7 +42,7 @@ returns-clause-same c =
 
 pub returns-clause-listed : goal.returns-clause-listed
 returns-clause-listed c =
-    let u = held c.self.inside.slots.items (c.self.inside.heaps.list) in
+    let u = held c.self.inside.slots.items (all_of c.self.inside.heaps) in
     let v = c.sort_unstable_by_key.new.self.items in
     let copied : c.in_ok-messages.messages.items ≡ u = search rules in
     let moved = subst (λ (w : List Message). IsPermutation w v) copied c.sort_unstable_by_key.ensures.permutation in

@@ -20,7 +20,7 @@ returns-clause-receivers c =
     let n = length s.cash in
     let new = c.answer.new.out.replies.list in
     let there : All (IsToTrader n) (market s c.args.time c.args.from c.args.body.now).replies =
-    to-traders s c.args.time c.args.from c.args.body.now c.is_sound.ensures (c.fills_add_up.ensures.tested (is_trader n) (λ o left le e. e)) c.requires.trader c.requires.exists in
+    to-traders s c.args.time c.args.from c.args.body.now c.know_soundness.ensures (c.fills_add_up.ensures.tested (is_trader n) (λ o left le e. e)) c.requires.trader c.requires.exists in
     either c.answer.result (new ≡ (market s c.args.time c.args.from c.args.body.now).replies) (new ≡ c.args.out.now.replies.list) (All (IsToTrader n) new) c.answer.ensures.replies c.answer.ensures.replies_refused
     (λ e. subst (λ (rs : List Outgoing). All (IsToTrader n) rs) (sym e) there)
     (λ e. subst (λ (rs : List Outgoing). All (IsToTrader n) rs) (sym (e ∙ c.requires.no_replies)) (All-nil (IsToTrader n)))

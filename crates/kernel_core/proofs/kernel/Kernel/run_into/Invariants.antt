@@ -1,3 +1,4 @@
+use Rattle.market_floor.specs.Reaction.{most_posted}
 use Rattle.std.proofs.Common.{◌≡◌, ◌≤◌, ◌+◌, ◌-◌, All, max}
 use Rattle.market_types.specs.Timely.{IsTimely}
 use Rattle.market_rules.specs.declared.edit.Edit.{Edit}
@@ -19,7 +20,7 @@ invariant-events g l = record {
   ticks : l.steps + l.initial.self.events ≡ l.initial.steps + l.self.events;
   offsets : l.self.floor.offsets ≡ l.initial.self.floor.offsets;
   editable : (e : Edit) → IsEditOf l.initial.self e → IsEditOf l.self e;
-  drops : l.self.post.dropped ≤ max l.initial.self.post.dropped 2000002;
+  drops : l.self.post.dropped ≤ max l.initial.self.post.dropped most_posted;
 }
 
 abbrev pub decreases-events : goal.decreases-events

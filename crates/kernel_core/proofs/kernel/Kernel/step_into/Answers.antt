@@ -1,5 +1,5 @@
 use Rattle.std.proofs.Common.{◌≡◌, Bool, true, ap, ◌∙◌}
-use Rattle.kernel_core.specs.Seen.{first_of}
+use Rattle.kernel_core.specs.Seen.{first_waiting}
 use Rattle.kernel_core.specs.State.{State}
 use Rattle.kernel_core.specs.Step.{event_of}
 use Rattle.kernel_core.proofs.Kept.{event-offsets, event-settings, settings_of}
@@ -14,7 +14,7 @@ returns-then-kept-clause-kept g c =
     let s = c.args.self.now in
     let one : IsOne o s c.happen.new.self = one-made o s c.happen.new.self c.in-Ok.happened c.in-Ok-happened.kept c.in-Ok-happened.is c.in-Ok.ensures.going c.in-Ok.ensures.next c.in-Ok.ensures.state in
     let take = g.K.Keeper.with in
-    let taken = if-ok (λ (kept : Bool). kept ≡ true → g.K.Keeper.told c.happen.new.keeper ≡ take (g.K.Keeper.told c.args.keeper.now) (event_of o s (first_of s)).entry) c.in-Ok.happened c.in-Ok-happened.kept c.in-Ok-happened.is c.in-Ok.ensures.taken in
+    let taken = if-ok (λ (kept : Bool). kept ≡ true → g.K.Keeper.told c.happen.new.keeper ≡ take (g.K.Keeper.told c.args.keeper.now) (event_of o s (first_waiting s)).entry) c.in-Ok.happened c.in-Ok-happened.kept c.in-Ok-happened.is c.in-Ok.ensures.taken in
     one-kept take (g.K.Keeper.told c.args.keeper.now) (g.K.Keeper.told c.happen.new.keeper) o s c.happen.new.self one (taken c.if-kept.true)
 
 pub returns-then-kept-clause-made : goal.returns-then-kept-clause-made
@@ -32,13 +32,13 @@ returns-then-kept-clause-timely g c =
     one-told o s c.happen.new.self one (on-ok c.in-Ok.happened c.in-Ok-happened.kept c.in-Ok-happened.is c.in-Ok.ensures.timely)
 
 pub returns-then-kept-clause-offsets : goal.returns-then-kept-clause-offsets
-returns-then-kept-clause-offsets g c = ap (λ (s : State). s.floor.offsets) (on-ok c.in-Ok.happened c.in-Ok-happened.kept c.in-Ok-happened.is c.in-Ok.ensures.state) ∙ event-offsets c.args.o.now c.args.self.now (first_of c.args.self.now)
+returns-then-kept-clause-offsets g c = ap (λ (s : State). s.floor.offsets) (on-ok c.in-Ok.happened c.in-Ok-happened.kept c.in-Ok-happened.is c.in-Ok.ensures.state) ∙ event-offsets c.args.o.now c.args.self.now (first_waiting c.args.self.now)
 
 pub returns-then-kept-clause-editable : goal.returns-then-kept-clause-editable
 returns-then-kept-clause-editable g c e h =
     let s = c.args.self.now in
     let o = c.args.o.now in
-    let same = ap (λ (q : State). settings_of q.floor) (on-ok c.in-Ok.happened c.in-Ok-happened.kept c.in-Ok-happened.is c.in-Ok.ensures.state) ∙ event-settings o s (first_of s) in
+    let same = ap (λ (q : State). settings_of q.floor) (on-ok c.in-Ok.happened c.in-Ok-happened.kept c.in-Ok-happened.is c.in-Ok.ensures.state) ∙ event-settings o s (first_waiting s) in
     edit-kept o s c.happen.new.self e c.requires.fits c.happen.ensures.fitting same h
 
 -- the event, which the keeper refused
@@ -57,11 +57,11 @@ returns-clause-timely g c =
     one-told o s c.happen.new.self one (on-ok c.in-Ok.happened c.in-Ok-happened.kept c.in-Ok-happened.is c.in-Ok.ensures.timely)
 
 pub returns-clause-offsets : goal.returns-clause-offsets
-returns-clause-offsets g c = ap (λ (s : State). s.floor.offsets) (on-ok c.in-Ok.happened c.in-Ok-happened.kept c.in-Ok-happened.is c.in-Ok.ensures.state) ∙ event-offsets c.args.o.now c.args.self.now (first_of c.args.self.now)
+returns-clause-offsets g c = ap (λ (s : State). s.floor.offsets) (on-ok c.in-Ok.happened c.in-Ok-happened.kept c.in-Ok-happened.is c.in-Ok.ensures.state) ∙ event-offsets c.args.o.now c.args.self.now (first_waiting c.args.self.now)
 
 pub returns-clause-editable : goal.returns-clause-editable
 returns-clause-editable g c e h =
     let s = c.args.self.now in
     let o = c.args.o.now in
-    let same = ap (λ (q : State). settings_of q.floor) (on-ok c.in-Ok.happened c.in-Ok-happened.kept c.in-Ok-happened.is c.in-Ok.ensures.state) ∙ event-settings o s (first_of s) in
+    let same = ap (λ (q : State). settings_of q.floor) (on-ok c.in-Ok.happened c.in-Ok-happened.kept c.in-Ok-happened.is c.in-Ok.ensures.state) ∙ event-settings o s (first_waiting s) in
     edit-kept o s c.happen.new.self e c.requires.fits c.happen.ensures.fitting same h

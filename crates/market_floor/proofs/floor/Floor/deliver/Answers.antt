@@ -24,7 +24,7 @@ returns-clause-floor c =
     let same : os ≡ i.offsets.items = c.as_slice-offsets.ensures.value in
     let s = c.react.new.exchange in
     let ps = c.react.new.parties.items in
-    let le : dated_by o.dated m.time ≤ c.args.applied = not-due c.args.applied (dated_by o.dated m.time) c.is_due.result c.is_due.ensures c.if-is_due.false in
+    let le : dated_by o.dated m.time ≤ c.args.applied = not-due c.args.applied (dated_by o.dated m.time) c.args.is_due c.requires.due c.if-is_due.false in
     let base : floor_of i.exchange i.parties.items os ≡ g = whole f i.exchange i.parties.items i.offsets.items os same c.self.view_is ∙ ruled-none o c.args.applied m.time f le in
     ok-map c.react.result (floor_of s ps os ≡ (reaction o (floor_of i.exchange i.parties.items os) m).floor) (floor_of s ps i.offsets.items ≡ (reaction o g m).floor)
     (λ e. ap (λ (l : List ℤ). floor_of s ps l) (sym same) ∙ e ∙ ap (λ (q : FloorState). (reaction o q m).floor) base) c.react.ensures.floor
@@ -33,7 +33,7 @@ pub returns-clause-before : goal.returns-clause-before
 returns-clause-before c =
     let o = c.args.o.now in
     let m = c.args.m.now in
-    let le : dated_by o.dated m.time ≤ c.args.applied = not-due c.args.applied (dated_by o.dated m.time) c.is_due.result c.is_due.ensures c.if-is_due.false in
+    let le : dated_by o.dated m.time ≤ c.args.applied = not-due c.args.applied (dated_by o.dated m.time) c.args.is_due c.requires.due c.if-is_due.false in
     ok-all c.react.result _ (ap (λ (l : Room Feed). l.list) (c.react.ensures.before ∙ c.clear.ensures) ∙ untold-none o c.args.applied m.time c.args.self.now le)
 
 pub returns-clause-told : goal.returns-clause-told
@@ -43,7 +43,7 @@ returns-clause-told c =
     let f = c.args.self.now in
     let i = c.self.inside in
     let os = c.as_slice-offsets.result.now in
-    let le : dated_by o.dated m.time ≤ c.args.applied = not-due c.args.applied (dated_by o.dated m.time) c.is_due.result c.is_due.ensures c.if-is_due.false in
+    let le : dated_by o.dated m.time ≤ c.args.applied = not-due c.args.applied (dated_by o.dated m.time) c.args.is_due c.requires.due c.if-is_due.false in
     let base = whole f i.exchange i.parties.items i.offsets.items os c.as_slice-offsets.ensures.value c.self.view_is ∙ ruled-none o c.args.applied m.time f le in
     subst (λ (q : FloorState). OnOk c.react.result (IsTold (reaction o q m) c.react.new.out)) base c.react.ensures.told
 

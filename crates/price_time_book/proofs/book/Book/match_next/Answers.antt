@@ -6,7 +6,8 @@ use Rattle.price_time_book.specs.Indexed.{IsIndexed, open_orders}
 use Rattle.price_time_book.specs.Matched.{after_fill, fill_of}
 use Rattle.price_time_book.specs.Next.{next_of}
 use Rattle.price_time_book.specs.Queues.{hidden_of, shown_of}
-use Rattle.price_time_book.proofs.Indexes.{references_lessened, tokens_lessened}
+use Rattle.price_time_book.proofs.Befores.{chained_lessened}
+use Rattle.price_time_book.proofs.Indexes.{references_lessened}
 use Rattle.price_time_book.proofs.Sides.{if_none}
 use Rattle.price_time_book.proofs.Takes.{others_buy, others_sell}
 use Rattle.price_time_book.proofs.book.Book.match_next.Goals as goal
@@ -22,11 +23,13 @@ invariant_of-self c =
       hidden_buys_room = search rules;
       hidden_sells_room = search rules;
       references_room = c.self.invariant.references_room;
-      tokens_room = c.self.invariant.tokens_room;
+      befores_room = c.self.invariant.befores_room;
+      lasts_begun = c.self.invariant.lasts_begun;
+      lasts_long = c.self.invariant.lasts_long;
       sell_count = c.take_first.ensures.count;
       buy_count = c.self.invariant.buy_count ∙ sym (c.take_first.ensures.other_count Buy (others_sell Sell refl));
       references = references_lessened k.orders.items c.take_first.new.orders.items k.references.items c.take_first.ensures.lessened c.self.invariant.references;
-      tokens = tokens_lessened k.orders.items c.take_first.new.orders.items k.tokens.items c.take_first.ensures.lessened c.self.invariant.tokens;
+      chained = chained_lessened k.orders.items c.take_first.new.orders.items k.chains.lasts.items k.chains.befores.items c.take_first.ensures.lessened c.self.invariant.chained;
       sells = subst (λ n. IsIndexed (shown_of Sell) c.take_first.new.orders.items n c.take_first.new.half.shown.items) c.as_slice-nexts.ensures.value c.take_first.ensures.shown;
       hidden_sells = subst (λ n. IsIndexed (hidden_of Sell) c.take_first.new.orders.items n c.take_first.new.half.hidden.items) c.as_slice-nexts.ensures.value c.take_first.ensures.hidden;
       buys = subst (λ n. IsIndexed (shown_of Buy) c.take_first.new.orders.items n k.buys.shown.items) c.as_slice-nexts.ensures.value (c.take_first.ensures.others (shown_of Buy) k.buys.shown.items (others_sell Sell refl) (subst (λ n. IsIndexed (shown_of Buy) k.orders.items n k.buys.shown.items) (sym c.as_slice-nexts.ensures.value) c.self.invariant.buys));
@@ -46,11 +49,13 @@ invariant_of-self-in-Sell c =
       hidden_buys_room = search rules;
       hidden_sells_room = search rules;
       references_room = c.self.invariant.references_room;
-      tokens_room = c.self.invariant.tokens_room;
+      befores_room = c.self.invariant.befores_room;
+      lasts_begun = c.self.invariant.lasts_begun;
+      lasts_long = c.self.invariant.lasts_long;
       buy_count = c.take_first-in-Sell.ensures.count;
       sell_count = c.self.invariant.sell_count ∙ sym (c.take_first-in-Sell.ensures.other_count Sell (others_buy Buy refl));
       references = references_lessened k.orders.items c.take_first-in-Sell.new.orders.items k.references.items c.take_first-in-Sell.ensures.lessened c.self.invariant.references;
-      tokens = tokens_lessened k.orders.items c.take_first-in-Sell.new.orders.items k.tokens.items c.take_first-in-Sell.ensures.lessened c.self.invariant.tokens;
+      chained = chained_lessened k.orders.items c.take_first-in-Sell.new.orders.items k.chains.lasts.items k.chains.befores.items c.take_first-in-Sell.ensures.lessened c.self.invariant.chained;
       buys = subst (λ n. IsIndexed (shown_of Buy) c.take_first-in-Sell.new.orders.items n c.take_first-in-Sell.new.half.shown.items) c.as_slice-nexts.ensures.value c.take_first-in-Sell.ensures.shown;
       hidden_buys = subst (λ n. IsIndexed (hidden_of Buy) c.take_first-in-Sell.new.orders.items n c.take_first-in-Sell.new.half.hidden.items) c.as_slice-nexts.ensures.value c.take_first-in-Sell.ensures.hidden;
       sells = subst (λ n. IsIndexed (shown_of Sell) c.take_first-in-Sell.new.orders.items n k.sells.shown.items) c.as_slice-nexts.ensures.value (c.take_first-in-Sell.ensures.others (shown_of Sell) k.sells.shown.items (others_buy Buy refl) (subst (λ n. IsIndexed (shown_of Sell) k.orders.items n k.sells.shown.items) (sym c.as_slice-nexts.ensures.value) c.self.invariant.sells));

@@ -19,13 +19,13 @@ lesser book side other limit shares depth most h is-other is-depth is-most =
 
 pub returns-then-most-le-FEW_FILLS-clause-enough : goal.returns-then-most-le-FEW_FILLS-clause-enough
 returns-then-most-le-FEW_FILLS-clause-enough c =
-    lesser c.args.self.now.list c.args.side c.opposite.result c.args.limit c.args.shares c.depth.result c.min-most.result c.is_orderly.ensures c.opposite.ensures c.depth.ensures c.min-most.ensures
+    lesser c.args.self.now.list c.args.side c.opposite.result c.args.limit c.args.shares c.depth.result c.min-most.result c.know_order.ensures c.opposite.ensures c.depth.ensures c.min-most.ensures
 
 pub returns-clause-enough : goal.returns-clause-enough
 returns-clause-enough c =
     omega (
       arith,
-      lesser c.args.self.now.list c.args.side c.opposite.result c.args.limit c.args.shares c.depth.result c.min-most.result c.is_orderly.ensures c.opposite.ensures c.depth.ensures c.min-most.ensures,
+      lesser c.args.self.now.list c.args.side c.opposite.result c.args.limit c.args.shares c.depth.result c.min-most.result c.know_order.ensures c.opposite.ensures c.depth.ensures c.min-most.ensures,
       fills-crossing c.args.self.now.list c.args.side c.args.limit c.args.shares,
       c.crossing.ensures,
       c.min.ensures,

@@ -5,7 +5,8 @@ use Rattle.price_time_book.specs.declared.resting.Resting.{Resting}
 use Rattle.price_time_book.specs.Indexed.{IsIndexed, open_orders}
 use Rattle.price_time_book.specs.Orders.{changed, order_with, reduced}
 use Rattle.price_time_book.specs.Queues.{hidden_of, shown_of}
-use Rattle.price_time_book.proofs.Indexes.{references_lessened, tokens_lessened}
+use Rattle.price_time_book.proofs.Befores.{chained_lessened}
+use Rattle.price_time_book.proofs.Indexes.{references_lessened}
 use Rattle.price_time_book.proofs.Takes.{held, others_buy, others_sell}
 use Rattle.price_time_book.proofs.book.Book.reduce.Goals as goal
 
@@ -57,11 +58,13 @@ invariant_of-self c =
       hidden_buys_room = search rules;
       hidden_sells_room = search rules;
       references_room = c.self.invariant.references_room;
-      tokens_room = c.self.invariant.tokens_room;
+      befores_room = c.self.invariant.befores_room;
+      lasts_begun = c.self.invariant.lasts_begun;
+      lasts_long = c.self.invariant.lasts_long;
       buy_count = c.lower_at.ensures.count;
       sell_count = c.self.invariant.sell_count ∙ sym (c.lower_at.ensures.other_count Sell (others_buy Buy refl));
       references = references_lessened k.orders.items c.lower_at.new.orders.items k.references.items c.lower_at.ensures.lessened c.self.invariant.references;
-      tokens = tokens_lessened k.orders.items c.lower_at.new.orders.items k.tokens.items c.lower_at.ensures.lessened c.self.invariant.tokens;
+      chained = chained_lessened k.orders.items c.lower_at.new.orders.items k.chains.lasts.items k.chains.befores.items c.lower_at.ensures.lessened c.self.invariant.chained;
       buys = subst (λ n. IsIndexed (shown_of Buy) c.lower_at.new.orders.items n c.lower_at.new.half.shown.items) c.as_slice-nexts.ensures.value c.lower_at.ensures.shown;
       hidden_buys = subst (λ n. IsIndexed (hidden_of Buy) c.lower_at.new.orders.items n c.lower_at.new.half.hidden.items) c.as_slice-nexts.ensures.value c.lower_at.ensures.hidden;
       sells = subst (λ n. IsIndexed (shown_of Sell) c.lower_at.new.orders.items n k.sells.shown.items) c.as_slice-nexts.ensures.value (c.lower_at.ensures.others (shown_of Sell) k.sells.shown.items (others_buy Buy refl) (subst (λ n. IsIndexed (shown_of Sell) k.orders.items n k.sells.shown.items) (sym c.as_slice-nexts.ensures.value) c.self.invariant.sells));
@@ -111,11 +114,13 @@ invariant_of-self-in-Sell c =
       hidden_buys_room = search rules;
       hidden_sells_room = search rules;
       references_room = c.self.invariant.references_room;
-      tokens_room = c.self.invariant.tokens_room;
+      befores_room = c.self.invariant.befores_room;
+      lasts_begun = c.self.invariant.lasts_begun;
+      lasts_long = c.self.invariant.lasts_long;
       sell_count = c.lower_at-in-Sell.ensures.count;
       buy_count = c.self.invariant.buy_count ∙ sym (c.lower_at-in-Sell.ensures.other_count Buy (others_sell Sell refl));
       references = references_lessened k.orders.items c.lower_at-in-Sell.new.orders.items k.references.items c.lower_at-in-Sell.ensures.lessened c.self.invariant.references;
-      tokens = tokens_lessened k.orders.items c.lower_at-in-Sell.new.orders.items k.tokens.items c.lower_at-in-Sell.ensures.lessened c.self.invariant.tokens;
+      chained = chained_lessened k.orders.items c.lower_at-in-Sell.new.orders.items k.chains.lasts.items k.chains.befores.items c.lower_at-in-Sell.ensures.lessened c.self.invariant.chained;
       sells = subst (λ n. IsIndexed (shown_of Sell) c.lower_at-in-Sell.new.orders.items n c.lower_at-in-Sell.new.half.shown.items) c.as_slice-nexts.ensures.value c.lower_at-in-Sell.ensures.shown;
       hidden_sells = subst (λ n. IsIndexed (hidden_of Sell) c.lower_at-in-Sell.new.orders.items n c.lower_at-in-Sell.new.half.hidden.items) c.as_slice-nexts.ensures.value c.lower_at-in-Sell.ensures.hidden;
       buys = subst (λ n. IsIndexed (shown_of Buy) c.lower_at-in-Sell.new.orders.items n k.buys.shown.items) c.as_slice-nexts.ensures.value (c.lower_at-in-Sell.ensures.others (shown_of Buy) k.buys.shown.items (others_sell Sell refl) (subst (λ n. IsIndexed (shown_of Buy) k.orders.items n k.buys.shown.items) (sym c.as_slice-nexts.ensures.value) c.self.invariant.buys));

@@ -4,7 +4,8 @@ use Rattle.market_types.specs.Room.{Room}
 use Rattle.market_types.specs.declared.order.Side.{Side}
 use Rattle.market_types.specs.declared.order.Side.TheVariants.{Buy, Sell}
 use Rattle.price_time_book.specs.declared.resting.Resting.{Resting}
-use Rattle.price_time_book.specs.Index.{IsByReference, IsByToken}
+use Rattle.price_time_book.specs.Chains.{IsChained}
+use Rattle.price_time_book.specs.Index.{IsByReference}
 use Rattle.price_time_book.specs.Indexed.{IsIndexed, IsSmall, open_orders}
 use Rattle.price_time_book.specs.Orders.{order_of}
 use Rattle.price_time_book.specs.Queues.{hidden_of, shown_of}
@@ -54,11 +55,13 @@ invariant_of-self c =
       hidden_buys_room = search rules;
       hidden_sells_room = search rules;
       references_room = search rules;
-      tokens_room = search rules;
+      befores_room = search rules;
+      lasts_begun = search rules;
+      lasts_long = search rules;
       buy_count = ap (λ n. n + 1) (c.join.ensures.count ∙ c.self.invariant.buy_count) ∙ sym (depth-push_on Buy (open_orders k.orders.items) order c.in-Buy.is) ∙ ap (depth_of Buy) (sym list);
       sell_count = c.self.invariant.sell_count ∙ sym (depth-push_off Sell (open_orders k.orders.items) order (λ q. others_buy order.side c.in-Buy.is (sym q))) ∙ ap (depth_of Sell) (sym list);
       references = subst (λ (w : List Resting). IsByReference w c.enter_reference.new.entries.items) (sym c.join.ensures.orders) (c.enter_reference.ensures.indexed k.orders.items (search rules) c.self.invariant.references later);
-      tokens = subst (λ (w : List Resting). IsByToken w c.enter_token.new.entries.items) (sym c.join.ensures.orders) (c.enter_token.ensures.indexed k.orders.items (search rules) c.self.invariant.tokens fresh);
+      chained = subst (λ (w : List Resting). IsChained w c.enter_token.new.chains.lasts.items c.enter_token.new.chains.befores.items) (sym c.join.ensures.orders) (c.enter_token.ensures.chained k.orders.items c.self.invariant.chained fresh);
       buys = subst (λ (s : Side). IsIndexed (shown_of s) c.join.new.orders.items c.join.new.nexts.items c.join.new.half.shown.items) c.in-Buy.is c.join.ensures.shown;
       hidden_buys = subst (λ (s : Side). IsIndexed (hidden_of s) c.join.new.orders.items c.join.new.nexts.items c.join.new.half.hidden.items) c.in-Buy.is c.join.ensures.hidden;
       sells = c.join.ensures.others (shown_of Sell) k.sells.shown.items (others_buy order.side c.in-Buy.is) c.self.invariant.sells;
@@ -109,11 +112,13 @@ invariant_of-self-in-Sell c =
       hidden_buys_room = search rules;
       hidden_sells_room = search rules;
       references_room = search rules;
-      tokens_room = search rules;
+      befores_room = search rules;
+      lasts_begun = search rules;
+      lasts_long = search rules;
       sell_count = ap (λ n. n + 1) (c.join-in-Sell.ensures.count ∙ c.self.invariant.sell_count) ∙ sym (depth-push_on Sell (open_orders k.orders.items) order c.in-Sell.is) ∙ ap (depth_of Sell) (sym list);
       buy_count = c.self.invariant.buy_count ∙ sym (depth-push_off Buy (open_orders k.orders.items) order (λ q. others_sell order.side c.in-Sell.is (sym q))) ∙ ap (depth_of Buy) (sym list);
       references = subst (λ (w : List Resting). IsByReference w c.enter_reference.new.entries.items) (sym c.join-in-Sell.ensures.orders) (c.enter_reference.ensures.indexed k.orders.items (search rules) c.self.invariant.references later);
-      tokens = subst (λ (w : List Resting). IsByToken w c.enter_token.new.entries.items) (sym c.join-in-Sell.ensures.orders) (c.enter_token.ensures.indexed k.orders.items (search rules) c.self.invariant.tokens fresh);
+      chained = subst (λ (w : List Resting). IsChained w c.enter_token.new.chains.lasts.items c.enter_token.new.chains.befores.items) (sym c.join-in-Sell.ensures.orders) (c.enter_token.ensures.chained k.orders.items c.self.invariant.chained fresh);
       sells = subst (λ (s : Side). IsIndexed (shown_of s) c.join-in-Sell.new.orders.items c.join-in-Sell.new.nexts.items c.join-in-Sell.new.half.shown.items) c.in-Sell.is c.join-in-Sell.ensures.shown;
       hidden_sells = subst (λ (s : Side). IsIndexed (hidden_of s) c.join-in-Sell.new.orders.items c.join-in-Sell.new.nexts.items c.join-in-Sell.new.half.hidden.items) c.in-Sell.is c.join-in-Sell.ensures.hidden;
       buys = c.join-in-Sell.ensures.others (shown_of Buy) k.buys.shown.items (others_sell order.side c.in-Sell.is) c.self.invariant.buys;
@@ -176,4 +181,7 @@ pub enter_reference-requires : goal.enter_reference-requires
 enter_reference-requires c = record { room = omega (arith, c.requires.room, c.self.invariant.references_room, ap (λ (r : Room Resting). r.spare) c.self.view_is) }
 
 pub enter_token-requires : goal.enter_token-requires
-enter_token-requires c = record { room = omega (arith, c.requires.room, c.self.invariant.tokens_room, ap (λ (r : Room Resting). r.spare) c.self.view_is) }
+enter_token-requires c = record {
+  room = omega (arith, c.requires.room, c.self.invariant.befores_room, ap (λ (r : Room Resting). r.spare) c.self.view_is);
+  begun = c.self.invariant.lasts_begun (omega (arith, c.requires.room, ap (λ (r : Room Resting). r.spare) c.self.view_is));
+}
