@@ -125,3 +125,35 @@ on-low (suc n) p s k t l low on = elim (parent_cases (segment_at p s).parent) [
 
 pub on-below : (p : Plan) (s k : ℕ) → IsTree p.branches p.limit → s < length (segments_in p) → IsOn p s k → k < length (segments_in p)
 on-below p s k t l on = omega (arith, on-low s p s k t l (omega arith) on)
+
+pub on-early : (p : Plan) (s k : ℕ) → IsTree p.branches p.limit → s < length (segments_in p) → IsOn p s k → k ≤ s
+on-early p s k t l on = on-low s p s k t l (omega arith) on
+
+-- the parent of what is on a chain is on it too
+on-up-here : (p : Plan) (s k q : ℕ) → IsTree p.branches p.limit → s < length (segments_in p) → (segment_at p k).parent ≡ Some q → s ≡ k → IsOn p s q
+on-up-here p s k q t l is same =
+    let mine : (segment_at p s).parent ≡ Some q = ap (λ (x : ℕ). (segment_at p x).parent) same ∙ is in
+    let parent = has_parent p s q t l mine in
+    on-more p s q q t l mine (on-self p q t (omega (arith, parent.earlier, l)))
+
+on-up : (n : ℕ) (p : Plan) (s k q : ℕ) → IsTree p.branches p.limit → s < length (segments_in p) → s ≤ n → IsOn p s k → (segment_at p k).parent ≡ Some q → IsOn p s q
+on-up zero p s k q t l low on is = elim (cases_eq s k) [
+  | inl same ↦ on-up-here p s k q t l is same
+  | inr other ↦ elim (parent_cases (segment_at p s).parent) [
+    | inl none ↦ absurd (other (on-first p s k none on))
+    | inr some ↦ let parent = has_parent p s some.0 t l some.1 in absurd (omega (arith, parent.earlier, low))
+  ]
+]
+on-up (suc n) p s k q t l low on is = elim (cases_eq s k) [
+  | inl same ↦ on-up-here p s k q t l is same
+  | inr other ↦ elim (parent_cases (segment_at p s).parent) [
+    | inl none ↦ absurd (other (on-first p s k none on))
+    | inr some ↦
+        let r = some.0 in
+        let parent = has_parent p s r t l some.1 in
+        on-more p s r q t l some.1 (on-up n p r k q t (omega (arith, parent.earlier, l)) (omega (arith, parent.earlier, low)) (on-parent p s r k t l some.1 other on) is)
+  ]
+]
+
+pub on-parents : (p : Plan) (s k q : ℕ) → IsTree p.branches p.limit → s < length (segments_in p) → IsOn p s k → (segment_at p k).parent ≡ Some q → IsOn p s q
+on-parents p s k q t l on is = on-up s p s k q t l (omega arith) on is

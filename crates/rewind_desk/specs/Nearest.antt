@@ -7,6 +7,8 @@ use Rattle.checkpoint_shelf.specs.Told.{ClosedTold}
 use Rattle.kernel_copy.specs.Courses.{CourseTold, IsKeyOf}
 use Rattle.rewind_desk.specs.declared.near.Near.{Near}
 use Rattle.rewind_desk.specs.Best.{most_among, count_at, is_held, is_held_near}
+use Rattle.branch_tree.specs.Plan.{Plan}
+use Rattle.branch_tree.specs.Segments.{segment_at}
 use Rattle.rewind_desk.specs.Reach.{IsOn}
 
 -- the events of a state, if there is one; else 0
@@ -19,6 +21,11 @@ abbrev pub nearer_of : Option Near → Option Near → Option Near
 nearer_of a None = a
 nearer_of None (Some b) = Some b
 nearer_of (Some a) (Some b) = if nat_lt b.events a.events then Some a else Some b
+
+-- a segment at which a run begins: that of the state, or where there is none one that goes on from no other
+abbrev pub IsBeginning : Plan → Option Near → ℕ → Type 0
+IsBeginning p None s = (segment_at p s).parent ≡ None
+IsBeginning p (Some n) s = n.key.segment ≡ s
 
 -- The shelf holds the course's state at this key, which has so many events, at most e.
 pub record IsHeld (shelf : ClosedTold CourseTold) (e : ℕ) (n : Near) : Type 0 where

@@ -18,13 +18,15 @@ fn is_on_chain(course: &Course, last: u32, segment: u32) -> bool
     requires { last < length (segments_in course.now.plan) }
     ensures { result ≡ is_on course.now.plan last segment }
 {
-    if last == segment {
-        return true;
+    course.is_course();
+    let mut at = last;
+    while at != segment {
+        let Some(parent) = course.segment(at).parent else {
+            return false;
+        };
+        at = parent;
     }
-    match course.segment(last).parent {
-        None => false,
-        Some(parent) => is_on_chain(course, parent, segment),
-    }
+    true
 }
 
 // A state that the shelf holds, with the number of its events.

@@ -3,6 +3,7 @@
 
 pub mod after_work;
 mod aimed;
+mod chain;
 mod desk;
 mod finding;
 pub mod laws;

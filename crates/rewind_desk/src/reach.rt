@@ -1,12 +1,13 @@
 //! From a state that a closed shelf holds on to another of its branch.
 
-ghost use Rattle.std.specs.Prelude.{◌≡◌, ◌≢◌, ◌<◌, ◌≤◌, ◌+◌, ◌-◌, ◌^◌, None, Some, IfOk, IfSome, IfNone, length};
+ghost use Rattle.std.specs.Prelude.{◌≡◌, ◌<◌, ◌≤◌, ◌+◌, ◌-◌, ◌^◌, None, Some, IfOk, IfSome, length};
 ghost use Rattle.branch_tree.specs.Segments.{segments_in, segment_at};
 ghost use Rattle.kernel_core.specs.Step.{Fits};
 ghost use Rattle.kernel_copy.specs.Segmentwise.{segment_end};
-ghost use Rattle.rewind_desk.specs.Nearest.{IsHeld, events_of};
+ghost use Rattle.rewind_desk.specs.Nearest.{IsBeginning, IsHeld, events_of};
 ghost use Rattle.rewind_desk.specs.Reach.{IsAt, IsOn, RunsOn, has_more};
 
+use crate::chain::{beginning_of, next_on_chain};
 use crate::near::Near;
 use branch_tree::Stop;
 use checkpoint_shelf::ClosedShelf;
@@ -25,23 +26,6 @@ pub(crate) struct Arrival {
     pub(crate) kernel: Kernel,
     // Whether the segment has more events than so many. If not, the kernel is at the segment's end.
     pub(crate) has_more: bool,
-}
-
-// A state, if it is one of this segment.
-fn own_of(near: Option<Near>, segment: u32) -> Option<Near>
-    ensures own { IfSome result (λ n. (near ≡ Some n) × (n.key.segment ≡ segment)) }
-    ensures other { IfNone result (IfSome near (λ n. n.key.segment ≢ segment)) }
-{
-    match near {
-        None => None,
-        Some(n) => {
-            if n.key.segment == segment {
-                Some(n)
-            } else {
-                None
-            }
-        }
-    }
 }
 
 /// Whether a kernel has one more event before a stop.
@@ -225,8 +209,36 @@ fn onward<L: Ledger>(
     from_parent(alloc, course, parent, segment, event, before.kernel, steps)
 }
 
+// The state after so many events of the segment at which a chain is begun, or its end: from the state that the shelf holds of it,
+// or else from the opening.
+fn begun<L: Ledger>(
+    alloc: Global,
+    course: &Course,
+    shelf: &ClosedShelf<Checkpoint>,
+    near: Option<Near>,
+    segment: u32,
+    event: u32,
+    steps: &mut Steps<L>,
+) -> Result<Arrival, Memory>
+    requires shelf { shelf.now.course ≡ course.now }
+    requires segment { segment < length (segments_in course.now.plan) }
+    requires within { event ≤ course.now.opening.limit }
+    requires held { IfSome near (IsHeld shelf.now event) }
+    requires begins { IsBeginning course.now.plan near segment }
+    requires count { steps.old + (event - events_of near) < 2 ^ 64 }
+    ensures at { IfOk result (λ a. IsAt course.now segment event a.kernel a.has_more) }
+    ensures ticks { IfOk result (λ a. steps.new + events_of near ≡ steps.old + a.kernel.events) }
+    ensures least { steps.old ≤ steps.new }
+    ensures most { steps.new + events_of near ≤ steps.old + event }
+{
+    match near {
+        Some(own) => from_near(alloc, course, shelf, own, event, steps),
+        None => from_opening(alloc, course, segment, event, steps),
+    }
+}
+
 // The state after so many events of a segment, or its end where that has no more, from the nearest state that the shelf holds
-// of its chain, or else from the opening.
+// of its chain, or else from the opening. It goes along the chain by a loop, so that a long one takes no more stack.
 pub(crate) fn reach<L: Ledger>(
     alloc: Global,
     course: &Course,
@@ -247,19 +259,17 @@ pub(crate) fn reach<L: Ledger>(
     ensures least { steps.old ≤ steps.new }
     ensures most { steps.new + events_of near ≤ steps.old + event }
 {
-    match own_of(near, segment) {
-        Some(own) => from_near(alloc, course, shelf, own, event, steps),
-        None => {
-            let g = course.segment(segment);
-            match g.parent {
-                None => from_opening(alloc, course, segment, event, steps),
-                Some(parent) => {
-                    let Ok(before) = reach(alloc, course, shelf, near, parent, event, steps) else {
-                        return Err(Memory);
-                    };
-                    onward(alloc, course, parent, segment, event, before, steps)
-                }
-            }
-        }
+    let mut at = beginning_of(course, near, segment);
+    let Ok(mut arrival) = begun(alloc, course, shelf, near, at, event, steps) else {
+        return Err(Memory);
+    };
+    while at != segment {
+        let next = next_on_chain(course, at, segment);
+        let Ok(further) = onward(alloc, course, at, next, event, arrival, steps) else {
+            return Err(Memory);
+        };
+        arrival = further;
+        at = next;
     }
+    Ok(arrival)
 }

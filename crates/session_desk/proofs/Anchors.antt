@@ -36,6 +36,25 @@ kept-more s b h pos l =
     sym (ap (λ (xs : List ℕ). not (is_some (first_other (is_own s) xs))) (path-more s.branches s.course.opening.limit b (numbered s h).tree pos l)
     ∙ kept-push (is_own s) (path_of s.branches (parent_at s.branches b)) b)
 
+and_true : (x : Bool) → (x && true) ≡ x
+and_true true = refl
+and_true false = refl
+
+and_false : (x : Bool) → (x && false) ≡ false
+and_false true = refl
+and_false false = refl
+
+-- all are own to a branch that is own just where all are to its parent; and not to one that isn't
+pub kept-own : (s : SessionTold) (b : ℕ) → IsSession s → 0 < b → b < length s.branches → is_own s b ≡ true → not (is_some (follower_of s (parent_at s.branches b))) ≡ not (is_some (follower_of s b))
+kept-own s b h pos l own =
+    let before = not (is_some (follower_of s (parent_at s.branches b))) in
+    sym (and_true before) ∙ ap (λ (t : Bool). before && t) (sym own) ∙ kept-more s b h pos l
+
+pub kept-other : (s : SessionTold) (b : ℕ) → IsSession s → 0 < b → b < length s.branches → is_own s b ≡ false → not (is_some (follower_of s b)) ≡ false
+kept-other s b h pos l foreign =
+    let before = not (is_some (follower_of s (parent_at s.branches b))) in
+    sym (kept-more s b h pos l) ∙ ap (λ (t : Bool). before && t) foreign ∙ and_false before
+
 -- where all are own, the last of them is the anchor
 last-kept : (own : ℕ → Bool) (a : ℕ) (xs : List ℕ) (b : ℕ) → first_other own (xs ++ b ∷ []) ≡ None → last_own own a (xs ++ b ∷ []) ≡ b
 last-kept own a [] b h = elim (cases_Bool (own b)) [

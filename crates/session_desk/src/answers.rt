@@ -31,8 +31,9 @@ impl Session {
     /// that an act forked or edited is taken. The counter rises by the events between the two.
     ///
     /// # Errors
-    /// `NoBranch` exactly where the tree hasn't the branch, else `NoEvent` exactly where the event is past the full run's last, and
-    /// want of memory. The counter then rose by no more than the study's limit of events.
+    /// `NoBranch` exactly where the tree hasn't the branch, else `NoEvent` exactly where the event is past the full run's last: the
+    /// counter then rose by the events from the nearest state up to that last event. And want of memory, where it rose by no more
+    /// than the study's limit of events.
     pub fn state<L: Ledger>(
         &self,
         shelf: &ClosedShelf<Checkpoint>,
@@ -53,6 +54,7 @@ impl Session {
 
         // The counter.
         ensures rose { OnOk result (steps.new + best shelf.now (anchor_of self.now branch) (shared_count self.now branch event) ≡ steps.old + event) }
+        ensures past { result ≡ Err (SessionError.NoEvent (last_event_in self.now branch)) → steps.new + best shelf.now (anchor_of self.now branch) (shared_count self.now branch (last_event_in self.now branch)) ≡ steps.old + last_event_in self.now branch }
         ensures unmoved { length self.now.branches ≤ branch → steps.new ≡ steps.old }
         ensures least { steps.old ≤ steps.new }
         ensures most { steps.new ≤ steps.old + self.now.course.opening.limit }

@@ -22,11 +22,14 @@ fn is_kept(session: &Session, branch: u16) -> bool
     requires { branch < length session.now.branches }
     ensures { result ≡ not (is_some (follower_of session.now branch)) }
 {
-    if branch == 0 {
-        return session.is_own(0);
+    let mut at = branch;
+    while at != 0 {
+        if !session.is_own(at) {
+            return false;
+        }
+        at = parent_of(session, at);
     }
-    let before = is_kept(session, parent_of(session, branch));
-    before && session.is_own(branch)
+    session.is_own(0)
 }
 
 // The state of a branch after so many events of its run over the tree, or after the last where there are fewer: from the nearest

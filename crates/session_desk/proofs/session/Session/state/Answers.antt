@@ -1,9 +1,9 @@
-use Rattle.std.proofs.Common.{◌≡◌, ◌<◌, ◌≤◌, ◌+◌, ℕ, inr, min, ap, sym, ◌∙◌, arith}
+use Rattle.std.proofs.Common.{◌≡◌, ◌<◌, ◌≤◌, ◌+◌, ℕ, inr, min, ap, sym, ◌∙◌, subst, arith}
 use Rattle.market_floor.specs.declared.opening.Opening.{Opening}
 use Rattle.kernel_copy.specs.Courses.{CourseTold}
 use Rattle.rewind_desk.specs.Best.{best}
 use Rattle.session_desk.specs.Anchors.{anchor_of, shared_count}
-use Rattle.session_desk.specs.Session.{full_in}
+use Rattle.session_desk.specs.Session.{full_in, last_event_in}
 use Rattle.session_desk.proofs.Along.{reached-event, reached-last}
 use Rattle.session_desk.proofs.Refused.{not-refused, refused-branch, refused-event}
 use Rattle.session_desk.proofs.session.Session.state.Goals as goal
@@ -117,3 +117,18 @@ returns-in-Err-clause-most g c =
     let limit : c.opening.result.now.limit ≡ s.course.opening.limit =
     ap (λ (o : Opening). o.limit) (c.opening.ensures.value ∙ ap (λ (x : CourseTold). x.opening) (c.deref.ensures ∙ c.course.ensures.value)) in
     omega (arith, limit, c.min-most.ensures, c.reach.ensures.most)
+
+pub returns-then-events-event-clause-past : goal.returns-then-events-event-clause-past
+returns-then-events-event-clause-past g c =
+    let s = c.args.self.now in
+    let b = c.args.branch in
+    let e = c.args.event in
+    let k = c.in-Ok.kernel in
+    let limit : c.opening.result.now.limit ≡ s.course.opening.limit =
+    ap (λ (o : Opening). o.limit) (c.opening.ensures.value ∙ ap (λ (x : CourseTold). x.opening) (c.deref.ensures ∙ c.course.ensures.value)) in
+    let most : c.min-most.result ≡ min e s.course.opening.limit = omega (arith, limit, c.min-most.ensures) in
+    let less : k.events < e = omega (arith, c.events-events.ensures, c.if-events-event.true) in
+    let last : k.events ≡ last_event_in s b = reached-last s b e c.min-most.result k most c.in-Ok.ensures.state less c.in-Ok.ensures.early in
+    let ticks : c.reach.new.steps + best c.args.shelf.now (anchor_of s b) (shared_count s b k.events) ≡ c.args.steps.now + k.events =
+    omega (arith, c.in-Ok.ensures.ticks, c.in-Ok.ensures.nearest) in
+    λ h. subst (λ (n : ℕ). c.reach.new.steps + best c.args.shelf.now (anchor_of s b) (shared_count s b n) ≡ c.args.steps.now + n) last ticks
