@@ -29,4 +29,4 @@ pub loop-parent-smaller : goal.loop-parent-smaller
 loop-parent-smaller c = omega (arith, (c.segment.ensures.parent c.in-Some.parent c.in-Some.is).earlier)
 
 pub returns-clause-first : goal.returns-clause-first
-returns-clause-first c = sym (ap (λ (x : Segment). x.parent) c.segment.ensures.value) ∙ c.in-None.is
+returns-clause-first c = sym (ap (λ (x : Segment). x.parent) c.segment.ensures.value) ∙ c.in_default.is

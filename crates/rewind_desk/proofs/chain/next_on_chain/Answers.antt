@@ -45,5 +45,5 @@ pub unreachable-requires : goal.unreachable-requires
 unreachable-requires c =
     let p = c.args.course.now.plan in
     let i = c.loop-parent.invariant in
-    let none : (segment_at p c.loop-parent.at).parent ≡ None = sym (ap (λ (x : Segment). x.parent) c.segment.ensures.value) ∙ c.in-None.is in
+    let none : (segment_at p c.loop-parent.at).parent ≡ None = sym (ap (λ (x : Segment). x.parent) c.segment.ensures.value) ∙ c.in_default.is in
     i.further (on-first p c.loop-parent.at c.args.from none i.behind)
