@@ -33,6 +33,7 @@ pub(crate) fn beginning_of(course: &Course, near: Option<Near>, last: u32) -> u3
     ensures on { IsOn course.now.plan last result }
     ensures early { result ≤ last }
 {
+    course.know_course();
     match near {
         Some(near) => near.key.segment,
         None => first_on_chain(course, last),
