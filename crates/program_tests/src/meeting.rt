@@ -1,14 +1,17 @@
-//! A gate at which two workers meet.
+//! A gate at which four workers meet.
 
 use outside::Gate;
 use std::sync::atomic::AtomicU64;
 use std::sync::atomic::Ordering::SeqCst;
 use std::thread;
 
-// How often a worker looks whether the other has come.
+// How often a worker looks whether the others have come.
 const TURNS: u32 = 10_000_000;
 
-/// A gate that holds each segment but the first until workers 0 and 1 have both come with one, or until its turns are spent. It
+// The mask of the four.
+const FOUR: u64 = 0b1111;
+
+/// A gate that holds each segment but the first until workers 0 to 3 have each come with one, or until its turns are spent. It
 /// notes who came with what: of a mask, bit 0 stands for number 0, bit 1 for number 1, and so on.
 #[derive(Drop)]
 pub(crate) struct MeetingGate {
@@ -50,7 +53,7 @@ impl Gate for MeetingGate {
         }
         self.workers.fetch_or(bit(worker), SeqCst);
         for _ in 0..TURNS {
-            if self.workers.load(SeqCst) == 0b11 {
+            if self.workers.load(SeqCst) == FOUR {
                 return;
             }
             thread::yield_now();

@@ -221,22 +221,22 @@ fn three_branches_share_two_events_among_any_workers(rt: HostRuntime) {
 }
 
 // The words of a command, and the file that they name beside the study.
-const BY_TWO: [(&[&str], &str); 5] = [
-    (&["run", "s", "--workers", "2"], ""),
-    (&["table", "s", "--workers", "2"], ""),
-    (&["rewind", "s", "root:0", "--workers", "2"], ""),
+const BY_FOUR: [(&[&str], &str); 5] = [
+    (&["run", "s", "--workers", "4"], ""),
+    (&["table", "s", "--workers", "4"], ""),
+    (&["rewind", "s", "root:0", "--workers", "4"], ""),
     (
-        &["cross", "s", "root:0", "ABM", "t", "--workers", "2"],
+        &["cross", "s", "root:0", "ABM", "t", "--workers", "4"],
         "agent,side,shares,price\n",
     ),
     (
-        &["session", "s", "t", "--workers", "2"],
+        &["session", "s", "t", "--workers", "4"],
         "[[act]]\nkind = \"undo\"\n",
     ),
 ];
 
-// A command has two workers, which meet at the gate, and passes it once with each of the five segments.
-fn runs_by_two<R: Abort + Threads + Wait + Sync>(
+// A command has four workers, which meet at the gate, and passes it once with each of the five segments.
+fn runs_by_four<R: Abort + Threads + Wait + Sync>(
     rt: &R,
     alloc: Global,
     text: &str,
@@ -251,16 +251,16 @@ fn runs_by_two<R: Abort + Threads + Wait + Sync>(
     let ended = ran_past(rt, alloc, row.0, &around, probes, &gate);
     holds(rt, is_ended(&ended, Status::Ok, 18));
     drop(ended);
-    equal(rt, gate.passed(), (5, 0b11111, 0b11));
+    equal(rt, gate.passed(), (5, 0b11111, 0b1111));
 }
 
-// Each command that simulates a study has more than one worker where its words say so.
+// Each command that simulates a study has as many workers as its words say.
 #[test]
 fn commands_have_their_workers(rt: HostRuntime) {
     let alloc = rt.alloc();
     let text = branched(&rt, alloc);
-    for row in BY_TWO.iter() {
-        runs_by_two(&rt, alloc, text.as_str(), row);
+    for row in BY_FOUR.iter() {
+        runs_by_four(&rt, alloc, text.as_str(), row);
     }
     drop(text);
 }
