@@ -1,10 +1,12 @@
 -- The segments along a full run, gone over from the last one up, and two runs that share the first of them.
-use Rattle.std.proofs.Common.{◌≡◌, ◌∙◌, ℕ, ◌<◌, List, [], ◌∷◌, ◌++◌, Option, Some, None, All, length, take, drop, refl, ap, ap₂, sym, subst, append-nil, append_assoc, take-append-drop}
-use Rattle.std.specs.Prelude.{reverse}
+use Rattle.std.proofs.Common.{◌≡◌, ◌∙◌, ℕ, ◌<◌, Bool, List, [], ◌∷◌, ◌++◌, Option, Some, None, All, length, take, drop, refl, ap, ap₂, sym, subst, append-nil, append_assoc, take-append-drop}
+use Rattle.std.specs.Prelude.{if◌then◌else◌, reverse}
+use Rattle.std.proofs.lemmas.Bool.{ne_eqb}
 use Rattle.std.proofs.lemmas.List.{reverse-append}
 use Rattle.std.proofs.lemmas.List.Concat.{flat_map-append}
 use Rattle.std.proofs.lemmas.List.Elements.{All-cons, All-nil}
 use Rattle.market_types.specs.Told.{EntryTold, EventTold}
+use Rattle.branch_tree.specs.Plan.{parent_at}
 use Rattle.branch_tree.specs.Segments.{segments_in, segment_at, last_of}
 use Rattle.kernel_core.specs.Until.{Run}
 use Rattle.kernel_copy.specs.Courses.{CourseTold, IsCourse}
@@ -13,7 +15,7 @@ use Rattle.kernel_copy.proofs.Trees.{course-tree}
 use Rattle.kernel_copy.proofs.Walks.{full-last, segment-copy}
 use Rattle.study_report.specs.Chains.{AreSegments, IsChainOf, entries_along, entries_at}
 use Rattle.study_report.specs.Difference.{events_in, first_apart, first_difference_of}
-use Rattle.study_report.specs.Tables.{run_of}
+use Rattle.study_report.specs.Tables.{difference, run_of}
 use Rattle.study_report.proofs.Apart.{apart-behind, apart-numbered}
 use Rattle.study_report.proofs.Numbering.{counted-full}
 use Rattle.study_report.proofs.ReportParts.{events_in-append}
@@ -91,3 +93,9 @@ apart-behind_shared c a b own others k h g same =
     sym (apart-behind shared rs ss)
     ∙ ap₂ first_apart (records-parted c a own k h) theirs
     ∙ apart-numbered 1 (events_in (run_of c a).entries) (events_in (run_of c b).entries) (counted-full c.opening c.plan a c.opening.limit).numbered (counted-full c.opening c.plan b c.opening.limit).numbered
+
+-- a branch after the root differs from its parent
+pub difference-later : (c : CourseTold) (b parent : ℕ) → (b ≡ 0 → ⊥) → parent ≡ parent_at c.plan.branches b → first_difference_of (run_of c b).entries (run_of c parent).entries ≡ difference c b
+difference-later c b parent later is =
+    ap (λ (p : ℕ). first_difference_of (run_of c b).entries (run_of c p).entries) is
+    ∙ ap (λ (root : Bool). if root then 0 else first_difference_of (run_of c b).entries (run_of c (parent_at c.plan.branches b)).entries) (sym (ne_eqb b 0 later))

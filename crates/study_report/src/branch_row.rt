@@ -103,8 +103,8 @@ fn difference_from_parent<W: RunOutcomes>(
     let own = chain_of(alloc, course, branch)?;
     let others = chain_of(alloc, course, parent_of(course, branch))?;
     let shared = shared_count(own.as_slice(), others.as_slice());
-    let own_rest = &own.as_slice()[shared..];
-    let others_rest = &others.as_slice()[shared..];
+    let (_, own_rest) = own.as_slice().split_at(shared);
+    let (_, others_rest) = others.as_slice().split_at(shared);
     difference_along(alloc, course, ran, own_rest, others_rest)
 }
 
