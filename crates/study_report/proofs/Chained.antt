@@ -1,11 +1,11 @@
 -- The segments along a full run, gone over from the last one up, and two runs that share the first of them.
-use Rattle.std.proofs.Common.{◌≡◌, ◌∙◌, ℕ, ◌<◌, Bool, List, [], ◌∷◌, ◌++◌, Option, Some, None, All, length, take, drop, refl, ap, ap₂, sym, subst, append-nil, append_assoc, take-append-drop}
+use Rattle.std.proofs.Common.{◌≡◌, ◌∙◌, ℕ, ◌<◌, Bool, List, [], ◌∷◌, ◌++◌, Option, Some, None, length, take, drop, ap, ap₂, sym, subst, append-nil, append_assoc, take-append-drop}
 use Rattle.std.specs.Prelude.{if◌then◌else◌, reverse}
 use Rattle.std.proofs.lemmas.Bool.{ne_eqb}
 use Rattle.std.proofs.lemmas.List.{reverse-append}
 use Rattle.std.proofs.lemmas.List.Concat.{flat_map-append}
 use Rattle.std.proofs.lemmas.List.Elements.{All-cons, All-nil}
-use Rattle.market_types.specs.Told.{EntryTold, EventTold}
+use Rattle.market_types.specs.Told.{EntryTold}
 use Rattle.branch_tree.specs.Plan.{parent_at}
 use Rattle.branch_tree.specs.Segments.{segments_in, segment_at, last_of}
 use Rattle.kernel_core.specs.Until.{Run}
@@ -39,8 +39,8 @@ end_is c s course within = ap (λ (r : Run). r.entries) (segment-copy c.opening 
 pub climbed-last : (c : CourseTold) (b s : ℕ) (new : List ℕ) → IsCourse c → b < length c.plan.branches → s ≡ last_of c.plan.branches b → s < length (segments_in c.plan) → new ≡ s ∷ [] → IsClimbed c b s new
 climbed-last c b s new course branch last within pushed =
     let whole : (run_of c b).entries ≡ (segment_end c.opening c.plan (segment_at c.plan s)).entries =
-        ap (λ (r : Run). r.entries) (full-last c.opening c.plan b (course-tree c course) course.limit branch)
-        ∙ ap (λ (k : ℕ). (segment_end c.opening c.plan (segment_at c.plan k)).entries) (sym last) in
+    ap (λ (r : Run). r.entries) (full-last c.opening c.plan b (course-tree c course) course.limit branch)
+    ∙ ap (λ (k : ℕ). (segment_end c.opening c.plan (segment_at c.plan k)).entries) (sym last) in
     let alone : entries_at c s ≡ entries_along c (s ∷ []) = sym (append-nil (entries_at c s)) in
     let climbed : IsClimbed c b s (s ∷ []) = record {
       exists = within;

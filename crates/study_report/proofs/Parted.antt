@@ -1,5 +1,5 @@
 -- The first records of two lists.
-use Rattle.std.proofs.Common.{◌≡◌, ◌∙◌, ℕ, Bool, List, [], ◌∷◌, Option, Some, None, refl, ap, ap₂, sym}
+use Rattle.std.proofs.Common.{◌≡◌, ◌∙◌, Bool, List, [], ◌∷◌, Option, Some, None, ap, ap₂, sym}
 use Rattle.market_types.specs.Told.{EventTold}
 use Rattle.study_report.specs.Same.{same_event}
 use Rattle.study_report.specs.Difference.{first_apart, parted}

@@ -2,7 +2,7 @@
 use Rattle.std.proofs.Common.{◌≡◌, ◌∙◌, ℕ, ◌+◌, ◌<◌, List, [], ◌∷◌, ◌++◌, length, get_or, drop, refl, ap, sym}
 use Rattle.std.specs.List.{flat_map}
 use Rattle.std.proofs.lemmas.List.{drop_more}
-use Rattle.market_types.specs.Told.{EventTold, EntryTold, event, edit}
+use Rattle.market_types.specs.Told.{EntryTold, event, edit}
 use Rattle.study_report.specs.Difference.{events_in}
 
 pub events_in-append : (es fs : List EntryTold) → events_in (es ++ fs) ≡ events_in es ++ events_in fs

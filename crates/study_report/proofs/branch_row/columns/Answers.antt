@@ -20,7 +20,7 @@ loop-part-preserved g c =
     let seen = flat_map (λ t. t.now.list) (take i parts) in
     let next = c.packed.result.now.list in
     let more = parts-taken (λ t. t.now.list) parts i c.part-item.result c.loop-part-test.true c.part-item.is
-        ∙ ap (λ (es : List EntryTold). seen ++ es) (sym (ap (λ v. v.list) c.packed.ensures)) in
+    ∙ ap (λ (es : List EntryTold). seen ++ es) (sym (ap (λ v. v.list) c.packed.ensures)) in
     (c.in_ok-watch_packed.ensures.numbers ∙ seen_on _ _ c.loop-part.probes c.args.probes.now seen next (flat_map (λ t. t.now.list) (take (i + 1) parts)) meanings numbers more, w.meanings ∙ meanings, w.titles ∙ titles)
 
 pub returns-clause-values : goal.returns-clause-values
@@ -39,7 +39,7 @@ returns-in-Some-clause-values g c =
     let k : CourseTold = c.args.course.now in
     let es : List EntryTold = (run_of k c.args.branch).entries in
     let sums : AreSums c.sums_of_parts.result es =
-        subst (λ (xs : List EntryTold). AreSums c.sums_of_parts.result xs) (ap (flat_map (λ t. t.now.list)) c.deref.ensures.value ∙ c.in_ok-parts.ensures) c.sums_of_parts.ensures in
+    subst (λ (xs : List EntryTold). AreSums c.sums_of_parts.result xs) (ap (flat_map (λ t. t.now.list)) c.deref.ensures.value ∙ c.in_ok-parts.ensures) c.sums_of_parts.ensures in
     let few = few-moved k c.args.branch c.sums_of_parts.result c.know_course.ensures c.requires.branch sums in
     subst (λ x. IfSome x (λ v. v.items ≡ map (λ b. column_of ((goal.Probe-dyn g (b.vtable, b.value)).meaning b.value) es) c.args.probes.now)) c.in-Some.is (c.in_ok-told.ensures es sums few)
     ∙ columns_by (λ b. (goal.Probe-dyn g (b.vtable, b.value)).meaning b.value) c.args.probes.now es
