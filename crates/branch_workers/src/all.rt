@@ -120,9 +120,9 @@ fn run_seated<R: Threads + Wait + Sync, G: Gate + Sync, L: Ledger + Send, B: Roo
 /// such a stop the limit of events. The state at each number that its segment passed stands there, if its place is no
 /// other's: so it is of all where there are as many places as multiples.
 ///
-/// Each outcome has what is to be kept of its segment's entries: they themselves, or the bytes of their frames one after
-/// another. With `Keep::Frames` a worker turns each event into bytes as it is made; with `Keep::Entries` it packs each into
-/// columns, which are held until the outcomes are let go.
+/// Each outcome has what is to be kept of its segment's entries. With `Keep::Entries` a worker packs each event into columns and
+/// adds it to their sums; with `Keep::Frames` it turns each into bytes as it is made; both are held until the outcomes are let
+/// go. With `Keep::Tallied` it counts those bytes and lets them go, and with `Keep::Nothing` no entry is held at all.
 ///
 /// # Errors
 /// Want of memory alone. The counter then rose by no more.
