@@ -8,7 +8,7 @@ use market_types::{Body, EditMark, End, Entry, FeedList, Record, Sequence, Trace
 use probe_desk::{Fees, Probe, Range, SpreadSum, Volume};
 use std::alloc::Global;
 use std::process::Abort;
-use study_report::{TableRow, first_difference, first_difference_of_parts, table};
+use study_report::{TableRow, first_difference, table};
 
 // A row of so many zeros; without a parent for the root.
 fn row(
@@ -193,14 +193,4 @@ fn runs_part_at_their_first_difference(rt: HostRuntime) {
     equal(&rt, first_difference(&base, &other), 3);
     equal(&rt, first_difference(&base, &short), 3);
     equal(&rt, first_difference(&short, &base), 3);
-}
-
-#[test]
-fn runs_part_in_parts_too(rt: HostRuntime) {
-    let alloc = rt.alloc();
-    let nothing = Trace::new(alloc);
-    let base = run(&rt, alloc, 3, 1010);
-    let other = run(&rt, alloc, 3, 1055);
-    let found = first_difference_of_parts(&[&nothing, &other], &[&base, &nothing]);
-    equal(&rt, found, 3);
 }

@@ -1,11 +1,8 @@
 -- The nearest state along a chain.
-use Rattle.std.proofs.Common.{◌≡◌, ◌≤◌, ◌<◌, ◌≢◌, ℕ, Bool, inl, inr, Option, Some, None, IfSome, length, refl, sym, ap, ◌∙◌, arith, subst}
+use Rattle.std.proofs.Common.{◌≡◌, ◌≤◌, ◌<◌, ℕ, Bool, inl, inr, Option, Some, None, IfSome, length, sym, ap, ◌∙◌, arith, subst}
 use Rattle.std.specs.Prelude.{min}
 use Rattle.std.proofs.lemmas.Bool.{cases_lt}
 use Rattle.checkpoint_shelf.specs.Told.{ClosedTold}
-use Rattle.branch_tree.specs.declared.segment.Segment.{Segment}
-use Rattle.branch_tree.specs.Plan.{Plan}
-use Rattle.branch_tree.specs.Planned.{IsTree}
 use Rattle.branch_tree.specs.Segments.{segments_in, segment_at, last_of}
 use Rattle.branch_tree.proofs.PartLemmas.{last-at}
 use Rattle.kernel_core.specs.State.{State}
@@ -16,11 +13,10 @@ use Rattle.kernel_copy.proofs.Trees.{course-tree}
 use Rattle.kernel_copy.proofs.Walks.{segment-within}
 use Rattle.rewind_desk.specs.declared.near.Near.{Near}
 use Rattle.rewind_desk.specs.Best.{count_at}
-use Rattle.rewind_desk.specs.Nearest.{events_of, IsHeld}
+use Rattle.rewind_desk.specs.Nearest.{IsHeld}
 use Rattle.rewind_desk.specs.Reach.{IsAt, IsOn}
 use Rattle.rewind_desk.specs.Rewinds.{last_event}
 use Rattle.rewind_desk.proofs.Arrivals.{at-last, at-within, chain-end}
-use Rattle.rewind_desk.proofs.Chained.{on-first, on-parent}
 use Rattle.rewind_desk.proofs.Lasts.{last-end}
 
 -- a state of a chain has at most the events of its end, and so is held up to fewer events
@@ -41,22 +37,6 @@ held-at shelf c s e x (Some n) same h l most held on =
 pub chain-of : (shelf : ClosedTold CourseTold) (c : CourseTold) (s : ℕ) (near : Option Near) → shelf.course ≡ c → IfSome near (λ (n : Near). IsOn shelf.course.plan s n.key.segment)
     → IfSome near (λ (n : Near). IsOn c.plan s n.key.segment)
 chain-of shelf c s near same on = subst (λ (x : CourseTold). IfSome near (λ (n : Near). IsOn x.plan s n.key.segment)) same on
-
--- a segment's parent, as it was read
-pub parent-is : (p : Plan) (s : ℕ) (g : Segment) (x : Option ℕ) → g ≡ segment_at p s → g.parent ≡ x → (segment_at p s).parent ≡ x
-parent-is p s g x same is = sym (ap (λ (y : Segment). y.parent) same) ∙ is
-
--- a state that isn't of a chain's last segment is of its parent's chain
-pub on-before : (p : Plan) (s q : ℕ) (near : Option Near) → IsTree p.branches p.limit → s < length (segments_in p) → (segment_at p s).parent ≡ Some q
-    → IfSome near (λ (n : Near). n.key.segment ≢ s) → IfSome near (λ (n : Near). IsOn p s n.key.segment) → IfSome near (λ (n : Near). IsOn p q n.key.segment)
-on-before p s q None t l is other on = tt
-on-before p s q (Some n) t l is other on = on-parent p s q n.key.segment t l is (λ e. other (sym e)) on
-
--- and there is none where the last has no parent
-pub none-before : (p : Plan) (s : ℕ) (near : Option Near) → (segment_at p s).parent ≡ None
-    → IfSome near (λ (n : Near). n.key.segment ≢ s) → IfSome near (λ (n : Near). IsOn p s n.key.segment) → events_of near ≡ 0
-none-before p s None none other on = refl
-none-before p s (Some n) none other on = absurd (other (sym (on-first p s n.key.segment none on)))
 
 -- A state that was reached for an event number, or for the limit of events where that is less.
 pub record Arrived (c : CourseTold) (b e : ℕ) (k : State) : Type 0 where

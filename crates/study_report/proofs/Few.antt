@@ -1,6 +1,6 @@
 -- A full run has few records.
-use Rattle.std.proofs.Common.{◌≡◌, ◌∙◌, ℕ, ◌+◌, ◌*◌, ◌^◌, ◌<◌, ◌≤◌, List, [], ◌∷◌, length, refl, ap, sym, arith}
-use Rattle.market_types.specs.Told.{EventTold, EntryTold, event, edit}
+use Rattle.std.proofs.Common.{◌≡◌, ℕ, ◌^◌, ◌<◌, List, [], ◌∷◌, length, refl, ap, arith}
+use Rattle.market_types.specs.Told.{EntryTold, event, edit}
 use Rattle.branch_tree.specs.Segments.{last_of}
 use Rattle.branch_tree.proofs.PartLemmas.{last-at}
 use Rattle.kernel_core.specs.Until.{Run}

@@ -1,5 +1,4 @@
 pub mod OneMore
-pub mod Walks
 pub mod Numbered
 pub mod ReportParts
 pub mod Numbering
@@ -7,6 +6,10 @@ pub mod Ending
 pub mod Watching
 pub mod Traces
 pub mod Rows
+pub mod Sameness
+pub mod Apart
+pub mod Parted
 pub mod Compared
 pub mod Led
 pub mod Few
+pub mod Chained

@@ -1,5 +1,5 @@
 -- Where two runs part.
-use Rattle.std.specs.Prelude.{◌≡◌, ◌+◌, ℕ, List, [], ◌∷◌, Option, None, Some, Result, Ok, Err, if◌then◌else◌}
+use Rattle.std.specs.Prelude.{◌≡◌, ◌+◌, ℕ, List, [], ◌∷◌, Option, None, Some, if◌then◌else◌}
 use Rattle.market_types.specs.Told.{EventTold, EntryTold, event, edit}
 use Rattle.study_report.specs.Same.{same_event}
 
@@ -34,24 +34,10 @@ abbrev pub parted : List EventTold → Option (EventTold × List EventTold)
 parted [] = None
 parted (r ∷ rs) = Some (r, rs)
 
--- The records that are left to compare after an entry, or the number of a record that differs from the next one or stands
--- alone.
-abbrev pub compared : EntryTold → List EventTold → Result (List EventTold) ℕ
-compared (edit x) others = Ok others
-compared (event r) [] = Err r.number
-compared (event r) (s ∷ others) = if same_event r s then Ok others else Err r.number
-
--- the number of the first record; 0 where there is none
-abbrev pub first_number : List EventTold → ℕ
-first_number [] = 0
-first_number (r ∷ rs) = r.number
-
--- what a comparison left is compared further; one that ended stays so
-abbrev pub gone_on : Result (List EventTold) ℕ → (List EventTold → Result (List EventTold) ℕ) → Result (List EventTold) ℕ
-gone_on (Ok rest) next = next rest
-gone_on (Err number) next = Err number
-
--- the same after entries in order
-abbrev pub all_compared : List EntryTold → List EventTold → Result (List EventTold) ℕ
-all_compared [] others = Ok others
-all_compared (e ∷ entries) others = gone_on (compared e others) (λ rest. all_compared entries rest)
+-- The number of the first record that differs from the one at its place in the other list or stands in one list alone; 0 where
+-- there is none.
+abbrev pub first_apart : List EventTold → List EventTold → ℕ
+first_apart [] [] = 0
+first_apart [] (s ∷ ss) = s.number
+first_apart (r ∷ rs) [] = r.number
+first_apart (r ∷ rs) (s ∷ ss) = if same_event r s then first_apart rs ss else r.number

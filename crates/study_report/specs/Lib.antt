@@ -6,3 +6,4 @@ pub mod Tables
 pub mod BranchWorked
 pub mod Next
 pub mod PackedRuns
+pub mod Chains

@@ -4,12 +4,14 @@ ghost use Rattle.std.specs.Prelude.{◌≡◌, ◌<◌, IfOk, length, map};
 ghost use Rattle.branch_tree.specs.Plan.{parent_at};
 ghost use Rattle.kernel_core.specs.Step.{end_of};
 ghost use Rattle.trace_bundle.specs.Ran.{IsListedRunOf, IsRunOf};
+ghost use Rattle.study_report.specs.Chains.{AreSegments, entries_along};
+ghost use Rattle.study_report.specs.Difference.{events_in, first_apart};
 ghost use Rattle.study_report.specs.Tables.{column, difference, ending_of, lettered, parent_name, row_of, run_of};
 
 use crate::TableRow;
-use crate::laws::runs_are_numbered;
+use crate::chains::{chain_of, shared_count};
 use crate::packed_difference::difference_of_packed;
-use crate::parts::parts_of;
+use crate::parts::{parts_along, parts_of};
 use branch_tree::Name;
 use kernel_copy::Course;
 use market_types::{End, Memory, Sequence};
@@ -66,7 +68,25 @@ fn left_name(course: &Course, branch: u16) -> Option<Name>
     Some(course.plan().branches()[usize::from(parent)].name.copy())
 }
 
-// Where the full run of a branch first differs from its parent's.
+// The number of the first record at which the entries along two rows of segments part; 0 where there is none.
+fn difference_along<W: RunOutcomes>(
+    alloc: Global,
+    course: &Course,
+    ran: &W,
+    own: &[u32],
+    others: &[u32],
+) -> Result<u32, Memory>
+    requires own { AreSegments course.now own.now }
+    requires others { AreSegments course.now others.now }
+    requires ran { IsListedRunOf course.now (W.count ran.now) (W.kept_of ran.now) (W.closing_of ran.now) }
+    ensures { IfOk result (λ d. d ≡ first_apart (events_in (entries_along course.now own.now)) (events_in (entries_along course.now others.now))) }
+{
+    let a = parts_along(alloc, course, ran, own)?;
+    let b = parts_along(alloc, course, ran, others)?;
+    difference_of_packed(alloc, a.as_slice(), b.as_slice())
+}
+
+// Where the full run of a branch first differs from its parent's. The segments that both share are not read.
 fn difference_from_parent<W: RunOutcomes>(
     alloc: Global,
     course: &Course,
@@ -80,10 +100,12 @@ fn difference_from_parent<W: RunOutcomes>(
     if branch == 0 {
         return Ok(0);
     }
-    runs_are_numbered();
-    let own = parts_of(alloc, course, ran, branch)?;
-    let others = parts_of(alloc, course, ran, parent_of(course, branch))?;
-    difference_of_packed(alloc, own.as_slice(), others.as_slice())
+    let own = chain_of(alloc, course, branch)?;
+    let others = chain_of(alloc, course, parent_of(course, branch))?;
+    let shared = shared_count(own.as_slice(), others.as_slice());
+    let (_, own_rest) = own.as_slice().split_at(shared);
+    let (_, others_rest) = others.as_slice().split_at(shared);
+    difference_along(alloc, course, ran, own_rest, others_rest)
 }
 
 // What a letter of a closing says ended its run.

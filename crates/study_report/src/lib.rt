@@ -3,6 +3,7 @@
 
 mod branch_row;
 pub mod branch_worked;
+mod chains;
 mod difference;
 pub mod laws;
 mod lines;
@@ -15,7 +16,7 @@ mod tables;
 pub mod worked;
 mod writing;
 
-pub use difference::{first_difference, first_difference_of_parts};
+pub use difference::first_difference;
 pub use row::TableRow;
 pub use tables::study_table;
 pub use writing::table;

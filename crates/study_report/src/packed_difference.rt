@@ -2,7 +2,7 @@
 
 ghost use Rattle.std.specs.Prelude.{◌≡◌, IfOk};
 ghost use Rattle.std.specs.List.{flat_map};
-ghost use Rattle.study_report.specs.Difference.{AreNumbered, IsNumbered, difference_from, first_difference_of};
+ghost use Rattle.study_report.specs.Difference.{events_in, first_apart};
 ghost use Rattle.study_report.specs.PackedRuns.{left_in};
 
 use crate::packed_run::PackedRun;
@@ -11,11 +11,10 @@ use market_types::Memory;
 use probe_desk::Summed;
 use std::alloc::Global;
 
-// The least event number whose records differ or stand in one of two runs alone, of which nothing was read.
+// The number of the first record, of those that are left of two runs, that differs from the other run's or stands in one run
+// alone; 0 where there is none.
 fn first_apart(own: &mut PackedRun<'_>, other: &mut PackedRun<'_>) -> Result<u32, Memory>
-    requires numbered { AreNumbered 1 (left_in own.old) }
-    requires others { AreNumbered 1 (left_in other.old) }
-    ensures { IfOk result (λ d. d ≡ difference_from 1 (left_in own.old) (left_in other.old)) }
+    ensures { IfOk result (λ d. d ≡ first_apart (left_in own.old) (left_in other.old)) }
 {
     'records: loop {
         let more = own.next()?;
@@ -35,16 +34,14 @@ fn first_apart(own: &mut PackedRun<'_>, other: &mut PackedRun<'_>) -> Result<u32
     }
 }
 
-// The least event number whose records differ or stand in one run alone; 0 where there is none. Edits aren't compared. One
-// record of each run at a time is read.
+// The number of the first record that differs from the one at its place in other parts or stands in these or those alone; 0
+// where there is none. Edits aren't compared. One record of each at a time is read.
 pub(crate) fn difference_of_packed(
     alloc: Global,
     a: &[&Summed],
     b: &[&Summed],
 ) -> Result<u32, Memory>
-    requires numbered { IsNumbered (flat_map (λ t. t.now.list) a.now) }
-    requires others { IsNumbered (flat_map (λ t. t.now.list) b.now) }
-    ensures { IfOk result (λ d. d ≡ first_difference_of (flat_map (λ t. t.now.list) a.now) (flat_map (λ t. t.now.list) b.now)) }
+    ensures { IfOk result (λ d. d ≡ first_apart (events_in (flat_map (λ t. t.now.list) a.now)) (events_in (flat_map (λ t. t.now.list) b.now))) }
 {
     let mut own = PackedRun::new(alloc, a);
     let mut other = PackedRun::new(alloc, b);

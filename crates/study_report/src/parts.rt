@@ -2,45 +2,37 @@
 
 ghost use Rattle.std.specs.Prelude.{◌≡◌, ◌<◌, IfOk, length};
 ghost use Rattle.std.specs.List.{flat_map};
-ghost use Rattle.branch_tree.specs.Segments.{segments_in, segment_at};
-ghost use Rattle.kernel_copy.specs.Segmentwise.{segment_end};
 ghost use Rattle.trace_bundle.specs.Ran.{IsListedRunOf};
+ghost use Rattle.study_report.specs.Chains.{AreSegments, entries_along};
 ghost use Rattle.study_report.specs.Tables.{run_of};
 
+use crate::chains::chain_of;
 use kernel_copy::Course;
 use market_types::Memory;
 use probe_desk::Summed;
 use std::alloc::Global;
 use trace_bundle::{RunOutcomes, summed_of_segment};
 
-// The entries of the segments from the root's first to this one, each of which goes on from the one before.
-fn parts_to<'a, W: RunOutcomes>(
+/// The own entries of segments, one after another.
+pub(crate) fn parts_along<'a, W: RunOutcomes>(
     alloc: Global,
     course: &Course,
     ran: &'a W,
-    segment: u32,
+    chain: &[u32],
 ) -> Result<Vec<&'a Summed>, Memory>
-    requires segment { segment < length (segments_in course.now.plan) }
+    requires chain { AreSegments course.now chain.now }
     requires ran { IsListedRunOf course.now (W.count ran.now) (W.kept_of ran.now) (W.closing_of ran.now) }
-    ensures { IfOk result (λ v. flat_map (λ t. t.now.list) v.items ≡ (segment_end course.now.opening course.now.plan (segment_at course.now.plan segment)).entries) }
+    ensures { IfOk result (λ v. flat_map (λ t. t.now.list) v.items ≡ entries_along course.now chain.now) }
 {
-    let own = summed_of_segment(course, ran, segment);
-    match course.segment(segment).parent {
-        None => {
-            let mut parts = Vec::new(alloc);
-            parts.push(own)?;
-            Ok(parts)
-        }
-        Some(parent) => {
-            let mut parts = parts_to(alloc, course, ran, parent)?;
-            parts.push(own)?;
-            Ok(parts)
-        }
+    let mut parts = Vec::new(alloc);
+    for i in 0..chain.len() {
+        parts.push(summed_of_segment(course, ran, chain[i]))?;
     }
+    Ok(parts)
 }
 
 /// The entries of the segments that a branch's full run goes along, in order.
-pub fn parts_of<'a, W: RunOutcomes>(
+pub(crate) fn parts_of<'a, W: RunOutcomes>(
     alloc: Global,
     course: &Course,
     ran: &'a W,
@@ -50,7 +42,6 @@ pub fn parts_of<'a, W: RunOutcomes>(
     requires ran { IsListedRunOf course.now (W.count ran.now) (W.kept_of ran.now) (W.closing_of ran.now) }
     ensures { IfOk result (λ v. flat_map (λ t. t.now.list) v.items ≡ (run_of course.now branch).entries) }
 {
-    course.know_course();
-    let last = course.last_segment(branch);
-    parts_to(alloc, course, ran, last)
+    let chain = chain_of(alloc, course, branch)?;
+    parts_along(alloc, course, ran, chain.as_slice())
 }

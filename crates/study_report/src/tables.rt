@@ -60,8 +60,10 @@ fn rows<W: RunOutcomes>(
 /// number at which it leaves or how many events came by the time at which it does, how many events its full run has and what
 /// ended it, the first event number at which the run differs from its parent's, and the number of each probe.
 ///
-/// Each probe opens anew before each branch, the first too, and sees the records of the branch's full run in order, from
-/// the opening. Its meaning and its title stay, whatever is answered.
+/// Where each probe is that of a column of every table, their numbers are taken from the sums that the run keeps of each
+/// segment: no entry is read for them, and no probe changes. Else each probe opens anew before each branch, the first too, and
+/// sees the records of the branch's full run in order, from the opening. Its meaning and its title stay, whatever is answered.
+/// The first difference is looked for behind the segments that both runs go along.
 ///
 /// # Errors
 /// Want of memory alone.

@@ -1,4 +1,4 @@
-use Rattle.std.proofs.Common.{◌≡◌, ◌∙◌, None, Some, ap, arith, sym}
+use Rattle.std.proofs.Common.{◌≡◌, ◌∙◌, Some, ap, arith, sym}
 use Rattle.branch_tree.specs.Segments.{segment_at}
 use Rattle.branch_tree.specs.declared.segment.Segment.{Segment}
 use Rattle.kernel_copy.proofs.Trees.{course-tree}

@@ -1,4 +1,4 @@
-use Rattle.std.proofs.Common.{◌≡◌, ◌+◌, ℕ, Option, None, Some, IfOk, IfSome, ap, arith, subst, sym}
+use Rattle.std.proofs.Common.{◌≡◌, ◌+◌, ℕ, Option, IfOk, IfSome, ap, arith, subst, sym}
 use Rattle.rewind_desk.specs.declared.near.Near.{Near}
 use Rattle.rewind_desk.specs.Nearest.{IsBeginning, IsHeld, events_of}
 use Rattle.rewind_desk.specs.Reach.{IsAt}

@@ -1,4 +1,4 @@
-use Rattle.std.proofs.Common.{◌≡◌, ◌≤◌, ◌+◌, ℕ, IfOk, arith, subst, sym}
+use Rattle.std.proofs.Common.{ℕ, arith, subst}
 use Rattle.rewind_desk.specs.Reach.{IsAt}
 use Rattle.rewind_desk.proofs.Arrivals.{at-within}
 use Rattle.rewind_desk.proofs.reach.reach.Goals as goal
