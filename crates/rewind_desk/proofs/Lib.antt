@@ -12,3 +12,4 @@ pub mod Laying
 pub mod Holding
 pub mod Nearing
 pub mod Rooted
+pub mod Lefts

@@ -69,3 +69,13 @@ most-least count test k (x ∷ ks) i p = elim (or_either (same_key x k) (is_in k
       omega (arith, here)
   | inr rest ↦ omega (arith, most-least count test k ks rest p)
 ]
+
+one-bound : (t : Bool) (a n : ℕ) → (t ≡ true → a ≤ n) → (if t then a else 0) ≤ n
+one-bound true a n h = h refl
+one-bound false a n h = omega arith
+
+-- where no key that passes has more than a number, the greatest count is no more
+pub most-bound : (count : Key → ℕ) (test : Key → Bool) (n : ℕ) (ks : List Key) → ((k : Key) → is_in k ks ≡ true → test k ≡ true → count k ≤ n) → most_among count test ks ≤ n
+most-bound count test n [] h = omega arith
+most-bound count test n (k ∷ ks) h =
+    omega (arith, one-bound (test k) (count k) n (h k (in-first k ks)), most-bound count test n ks (λ x i p. h x (or_right (same_key k x) (is_in x ks) i) p))

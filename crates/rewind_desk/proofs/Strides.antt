@@ -75,11 +75,11 @@ first-start c s h l none =
     start-at (stop_at c.plan.branches 0) (segments_in c.plan) s no_segment l (before-starts c.plan.branches c.plan.limit (length c.plan.branches)) none ∙ h.rooted.stop
 
 -- the events before a segment's own
-abbrev from_events : CourseTold → ℕ → ℕ
+abbrev pub from_events : CourseTold → ℕ → ℕ
 from_events c s = from_count c.opening c.plan (segment_at c.plan s)
 
 -- before a segment that goes on from no other there are none
-first-events : (c : CourseTold) (s : ℕ) → (segment_at c.plan s).parent ≡ None → from_events c s ≡ 0
+pub first-events : (c : CourseTold) (s : ℕ) → (segment_at c.plan s).parent ≡ None → from_events c s ≡ 0
 first-events c s none = ap (λ (x : Option ℕ). (parent_end c.opening c.plan x).state.events) none
 
 -- the state of a fork has the events of its segment's end
@@ -87,7 +87,7 @@ end-count : (c : CourseTold) (s : ℕ) → count_at c (record { segment = s; eve
 end-count c s = ap (λ (k : State). k.events) (after-end c.opening c.plan (segment_at c.plan s))
 
 -- the state at an event number at which a segment's run stands has as many events
-passed-count : (c : CourseTold) (s n : ℕ) → IsCourse c → s < length (segments_in c.plan) → from_events c s ≤ n → n ≤ end_events c s → count_at c (record { segment = s; event = n }) ≡ n
+pub passed-count : (c : CourseTold) (s n : ℕ) → IsCourse c → s < length (segments_in c.plan) → from_events c s ≤ n → n ≤ end_events c s → count_at c (record { segment = s; event = n }) ≡ n
 passed-count c s n h l from to =
     ap (λ (k : State). k.events) (standing-state c (record { segment = s; event = n }) h l from to) ∙ standing-events c s n h l from to
 
@@ -161,7 +161,7 @@ stop-above c s n (At m) h l is own less = elim (cases_lt m (from_events c s)) [
 stop-above c s n (When w) h l is own less = omega (arith, less, h.limit, segment-within c.opening c.plan s (course-tree c h) h.limit l)
 
 -- a state that surely stands and is near has at most the events of the nearest one
-sure-least : (c : CourseTold) (plan : ShelfPlan) (b e : ℕ) (k : Key) → is_in k (keys_in plan) ≡ true → is_sure c plan k ≡ true → IsOn c.plan (last_of c.plan.branches b) k.segment
+pub sure-least : (c : CourseTold) (plan : ShelfPlan) (b e : ℕ) (k : Key) → is_in k (keys_in plan) ≡ true → is_sure c plan k ≡ true → IsOn c.plan (last_of c.plan.branches b) k.segment
     → count_at c k ≤ e → count_at c k ≤ sure c plan b e
 sure-least c plan b e k i known on early =
     let s = last_of c.plan.branches b in
@@ -169,7 +169,7 @@ sure-least c plan b e k i known on early =
     most-least (count_at c) (is_sure_near c plan s e) k (keys_in plan) i (and-true (is_sure c plan k) (is_near c s e k) known near)
 
 -- the state at a fork is one of them
-fork-least : (c : CourseTold) (plan : ShelfPlan) (b e stride s q : ℕ) → IsCourse c → IsLaidFor c.plan stride plan → s < length (segments_in c.plan) → (segment_at c.plan s).parent ≡ Some q
+pub fork-least : (c : CourseTold) (plan : ShelfPlan) (b e stride s q : ℕ) → IsCourse c → IsLaidFor c.plan stride plan → s < length (segments_in c.plan) → (segment_at c.plan s).parent ≡ Some q
     → IsOn c.plan (last_of c.plan.branches b) q → end_events c q ≤ e → end_events c q ≤ sure c plan b e
 fork-least c plan b e stride s q h laid l is on early =
     let parent = has_parent c.plan s q (course-tree c h) l is in

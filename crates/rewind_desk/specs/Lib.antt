@@ -6,3 +6,4 @@ pub mod Rewinds
 pub mod Sure
 pub mod Worked
 pub mod AfterWork
+pub mod Left

@@ -7,6 +7,7 @@ mod chain;
 mod desk;
 mod finding;
 pub mod laws;
+pub mod left;
 mod named;
 mod near;
 mod past;
