@@ -11,7 +11,7 @@ use Rattle.shelf_core.specs.declared.plan.Key.{Key}
 use Rattle.shelf_core.specs.declared.plan.ShelfPlan.{ShelfPlan}
 use Rattle.shelf_core.specs.declared.words.PlaceWord.{PlaceWord}
 use Rattle.shelf_core.specs.declared.words.PlaceWord.TheVariants.{Free, Writing, Ready, Lent}
-use Rattle.shelf_core.specs.Plan.{index_of, is_in, is_sole, place_in, place_of, same_key}
+use Rattle.shelf_core.specs.Plan.{has_alone, index_of, is_in, is_sole, place_in, place_of, same_key}
 use Rattle.shelf_core.specs.Possible.{word_at, word_in}
 use Rattle.shelf_core.specs.Words.{is_ready}
 use Rattle.shelf_core.proofs.Lists.{not_some, some_same}
@@ -143,7 +143,7 @@ placed-sole plan k (inr many) there placed = enough_places plan k many there
 placed-sole plan k (inl none) there placed =
     let at = some-is (place_of plan k) placed in
     elim (place_cases plan (index_of k plan.forks) (index_of k plan.grid) at.0 at.1) [
-      | inl fork ↦ or_left (is_in k plan.forks) _ (has-index k at.0 plan.forks (index_found k at.0 plan.forks fork))
+      | inl fork ↦ or_left (is_in k plan.forks) (has_alone plan k (place_of plan k)) (has-index k at.0 plan.forks (index_found k at.0 plan.forks fork))
       | inr grid ↦ absurd (grid.2 none)
     ]
 
@@ -219,7 +219,7 @@ pub left-one : (c : CourseTold) (stride places : ℕ) (held : Key → Bool) (b e
 left-one c stride places held b e h ample left =
     let laid = layout c.plan stride places in
     let s = last_of c.plan.branches b in
-    let most = most-bound (count_at c) (λ k. held k && is_near c s e k) (sure c laid b e) (keys_in laid)
+    let most : nearest_of c laid held b e ≤ sure c laid b e = most-bound (count_at c) (λ k. held k && is_near c s e k) (sure c laid b e) (keys_in laid)
         (λ k i near. possible-least c stride places b e h ample k i (left.possible k i (and_left (held k) (is_near c s e k) near)) (and_right (held k) (is_near c s e k) near)) in
     omega (arith, most, left-least c laid held b e left)
 
@@ -228,8 +228,8 @@ pub possible-one : (c : CourseTold) (stride places b e : ℕ) → IsCourse c →
 possible-one c stride places b e h ample =
     let laid = layout c.plan stride places in
     let s = last_of c.plan.branches b in
-    let most = most-bound (count_at c) (λ k. is_possible c laid k && is_near c s e k) (sure c laid b e) (keys_in laid)
+    let most : nearest_of c laid (is_possible c laid) b e ≤ sure c laid b e = most-bound (count_at c) (λ k. is_possible c laid k && is_near c s e k) (sure c laid b e) (keys_in laid)
         (λ k i near. possible-least c stride places b e h ample k i (and_left (is_possible c laid k) (is_near c s e k) near) (and_right (is_possible c laid k) (is_near c s e k) near)) in
-    let least = most-fewer (count_at c) (is_sure_near c laid s e) (λ k. is_possible c laid k && is_near c s e k) (keys_in laid)
+    let least : sure c laid b e ≤ nearest_of c laid (is_possible c laid) b e = most-fewer (count_at c) (is_sure_near c laid s e) (λ k. is_possible c laid k && is_near c s e k) (keys_in laid)
         (λ k i near. and-true (is_possible c laid k) (is_near c s e k) (sure-possible c laid k (and_left (is_sure c laid k) (is_near c s e k) near)) (and_right (is_sure c laid k) (is_near c s e k) near)) in
     omega (arith, most, least)
