@@ -1,7 +1,7 @@
 //! The program as the system runs it: words of the command line, files and streams in, an exit status out. It stands
 //! apart from `main` so that a program of cases shows the same functions.
 
-ghost use Rattle.std.specs.Prelude.{◌≡◌, ◌⊎◌, IfOk, IfErr, OnErr};
+ghost use Rattle.std.specs.Prelude.{◌≡◌, ◌⊎◌, IfOk, IfErr, OnErr, drop};
 ghost use Rattle.std.specs.Process.{exit_status};
 ghost use Rattle.abides_run.specs.Code.{code_of};
 ghost use Rattle.abides_run.specs.Words.{texts};
@@ -54,10 +54,28 @@ fn run_line<R: Env + Files + AllocGlobal + Threads + Wait + Sync, O: Sink, N: Si
         (record { faults = N.faults notes.old; taken = N.taken notes.old })
         (record { faults = N.faults notes.new; taken = N.taken notes.new }) }
 {
-    match command_words(rt) {
-        Ok(words) => run_words(rt, &words, out, notes),
+    match given_words(rt) {
+        Ok(given) => run_given(rt, given, out, notes),
         Err(status) => write_note(rt.alloc(), "", status, notes),
     }
+}
+
+// Runs what the system gave: the program's name, and the words behind it.
+fn run_given<R: Files + AllocGlobal + Threads + Wait + Sync, O: Sink, N: Sink>(
+    rt: &R,
+    given: Vec<String>,
+    out: &mut O,
+    notes: &mut N,
+) -> Status
+    ensures ended { Ended result
+        (record { faults = O.faults out.old; taken = O.taken out.old })
+        (record { faults = O.faults out.new; taken = O.taken out.new })
+        (record { faults = N.faults notes.old; taken = N.taken notes.old })
+        (record { faults = N.faults notes.new; taken = N.taken notes.new }) }
+    ensures asked { TellsFaulty (texts (drop 1 given.items)) result }
+{
+    let words = words_behind_name(given);
+    run_words(rt, &words, out, notes)
 }
 
 /// Runs the words of a command line, without the program's name, over the system's files. A table has a column for each of the
@@ -163,8 +181,8 @@ fn run_with<R: Files + AllocGlobal + Threads + Wait + Sync, O: Sink, N: Sink>(
     status
 }
 
-// The command line without the program's name. Words that are no text are faulty words.
-fn command_words<R: Env + AllocGlobal>(rt: &R) -> Result<Vec<String>, Status>
+// The program's name and the words behind it. Words that are no text are faulty words.
+fn given_words<R: Env + AllocGlobal>(rt: &R) -> Result<Vec<String>, Status>
     ensures { IfErr result (λ status. (status ≡ Status.Usage) ⊎ (status ≡ Status.Memory)) }
 {
     let given = match env::args(rt) {
@@ -177,8 +195,8 @@ fn command_words<R: Env + AllocGlobal>(rt: &R) -> Result<Vec<String>, Status>
             };
         }
     };
-    match given.collect(rt.alloc()) {
-        Ok(given) => Ok(words_behind_name(given)),
-        Err(_) => Err(Status::Memory),
-    }
+    let Ok(given) = given.collect(rt.alloc()) else {
+        return Err(Status::Memory);
+    };
+    Ok(given)
 }

@@ -22,6 +22,8 @@ mod large_study_tests;
 #[cfg(test)]
 mod many_rows;
 #[cfg(test)]
+mod meeting;
+#[cfg(test)]
 mod probes;
 #[cfg(test)]
 mod rewinds;

@@ -1,4 +1,5 @@
 use crate::facts::{equal, holds};
+use crate::meeting::MeetingGate;
 use crate::runs::{
     Around, Ended, NOTES, Room, alone, four_probes, is_ended, is_write_fault, ran, ran_past, sized,
 };
@@ -220,7 +221,8 @@ fn three_branches_share_two_events_among_any_workers(rt: HostRuntime) {
 }
 
 // The words of a command, and the file that they name beside the study.
-const BY_TWO: [(&[&str], &str); 4] = [
+const BY_TWO: [(&[&str], &str); 5] = [
+    (&["run", "s", "--workers", "2"], ""),
     (&["table", "s", "--workers", "2"], ""),
     (&["rewind", "s", "root:0", "--workers", "2"], ""),
     (
@@ -233,42 +235,26 @@ const BY_TWO: [(&[&str], &str); 4] = [
     ),
 ];
 
-// A command runs three branches past this gate, by two workers.
-fn runs_past<R: Abort + Threads + Wait + Sync>(
-    rt: &R,
-    alloc: Global,
-    text: &str,
-    row: &(&[&str], &str),
-    gate: &HoldGate,
-) {
-    let around = Around {
-        series: row.1,
-        ..alone(text, sized(4096, 4096))
-    };
-    let probes = four_probes(rt, alloc);
-    let ended = ran_past(rt, alloc, row.0, &around, probes, gate);
-    holds(rt, is_ended(&ended, Status::Ok, 18));
-    drop(ended);
-    holds(rt, gate.passes() == 5);
-}
-
-// A command has two workers, whose segments 2 and 3 are under way at once, and passes the gate by the numbers of segments: one
-// that holds segment 4 until another that isn't there is spent.
+// A command has two workers, which meet at the gate, and passes it once with each of the five segments.
 fn runs_by_two<R: Abort + Threads + Wait + Sync>(
     rt: &R,
     alloc: Global,
     text: &str,
     row: &(&[&str], &str),
 ) {
-    let gate = HoldGate::new(2, 3, 100_000_000);
-    runs_past(rt, alloc, text, row, &gate);
-    holds(rt, !gate.exceeded());
-    let spent = HoldGate::new(4, 99, 1);
-    runs_past(rt, alloc, text, row, &spent);
-    holds(rt, spent.exceeded());
+    let around = Around {
+        series: row.1,
+        ..alone(text, sized(4096, 4096))
+    };
+    let gate = MeetingGate::new();
+    let probes = four_probes(rt, alloc);
+    let ended = ran_past(rt, alloc, row.0, &around, probes, &gate);
+    holds(rt, is_ended(&ended, Status::Ok, 18));
+    drop(ended);
+    equal(rt, gate.passed(), (5, 0b11111, 0b11));
 }
 
-// The other commands that simulate a study have more than one worker too where their words say so.
+// Each command that simulates a study has more than one worker where its words say so.
 #[test]
 fn commands_have_their_workers(rt: HostRuntime) {
     let alloc = rt.alloc();

@@ -16,7 +16,7 @@ fn first_on_chain(course: &Course, last: u32) -> u32
     ensures on { IsOn course.now.plan last result }
     ensures early { result ≤ last }
 {
-    course.is_course();
+    course.know_course();
     let mut at = last;
     while let Some(parent) = course.segment(at).parent {
         at = parent;
@@ -33,6 +33,7 @@ pub(crate) fn beginning_of(course: &Course, near: Option<Near>, last: u32) -> u3
     ensures on { IsOn course.now.plan last result }
     ensures early { result ≤ last }
 {
+    course.know_course();
     match near {
         Some(near) => near.key.segment,
         None => first_on_chain(course, last),
@@ -50,7 +51,7 @@ pub(crate) fn next_on_chain(course: &Course, from: u32, last: u32) -> u32
     ensures later { from < result }
     ensures early { result ≤ last }
 {
-    course.is_course();
+    course.know_course();
     let mut at = last;
     while let Some(parent) = course.segment(at).parent {
         if parent == from {

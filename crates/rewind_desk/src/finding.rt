@@ -18,7 +18,7 @@ fn is_on_chain(course: &Course, last: u32, segment: u32) -> bool
     requires { last < length (segments_in course.now.plan) }
     ensures { result ≡ is_on course.now.plan last segment }
 {
-    course.is_course();
+    course.know_course();
     let mut at = last;
     while at != segment {
         let Some(parent) = course.segment(at).parent else {

@@ -24,10 +24,12 @@ fn is_kept(session: &Session, branch: u16) -> bool
 {
     let mut at = branch;
     while at != 0 {
-        if !session.is_own(at) {
+        let before = parent_of(session, at);
+        let own = session.is_own(at);
+        if !own {
             return false;
         }
-        at = parent_of(session, at);
+        at = before;
     }
     session.is_own(0)
 }

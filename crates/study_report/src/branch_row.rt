@@ -33,7 +33,7 @@ fn columns<W: RunOutcomes>(
     ensures meanings { map (λ p. meaning p) probes.new ≡ map (λ p. meaning p) probes.old }
     ensures titles { map (λ p. title p) probes.new ≡ map (λ p. title p) probes.old }
 {
-    course.is_course();
+    course.know_course();
     let parts = parts_of(alloc, course, ran, branch)?;
     if let Some(told) = values_by_sums(alloc, probes, &sums_of_parts(&parts))? {
         return Ok(told);

@@ -5,13 +5,13 @@ use Rattle.std.proofs.lemmas.List.{get_or_append_left, get_or_push, length-map, 
 use Rattle.bundle_frames.specs.declared.closing.Closing.{Closing}
 use Rattle.branch_tree.specs.Segments.{segments_in}
 use Rattle.kernel_copy.specs.Courses.{CourseTold}
-use Rattle.kernel_copy.specs.Kept.{KeptTold}
+use Rattle.kernel_copy.specs.Kept.{KeepsFrames, KeepsTally, KeptTold}
 use Rattle.kernel_copy.specs.declared.kept.Keep.{Keep}
 use Rattle.kernel_copy.specs.declared.kept.Keep.TheVariants as keeping
 use Rattle.kernel_copy.specs.declared.run.Outcome.{Outcome}
 use Rattle.kernel_copy.specs.Outcomes.{OutcomeTold, outcome_of, outcome_told, outcomes_before}
 use Rattle.trace_bundle.specs.Outcomes.{all_told, no_outcome, outcome_at}
-use Rattle.trace_bundle.specs.Ran.{IsFramedRunOf, IsListedRunOf, IsRunOf}
+use Rattle.trace_bundle.specs.Ran.{IsFramedRunOf, IsListedRunOf, IsRunOf, IsTalliedRunOf}
 
 outcomes-length : (c : CourseTold) (k : Keep) (n : ℕ) → length (outcomes_before c k n) ≡ n
 outcomes-length c k zero = refl
@@ -44,6 +44,17 @@ run-of c k xs e = record {
   closing = λ s l. ap (λ (x : OutcomeTold). x.closing) (held-at c k xs e s l);
 }
 
+-- with the frames, or with their tally, where what is kept of each segment tells them
+pub framed-run-of : (c : CourseTold) (k : Keep) (xs : List Outcome) → KeepsFrames k → map outcome_told xs ≡ outcomes_before c k (length (segments_in c.plan))
+    → IsFramedRunOf c (length xs) (λ s. (outcome_at (all_told xs) s).kept) (λ s. (outcome_at (all_told xs) s).closing)
+unfolding run-of
+framed-run-of c k xs keeps e = record { run = run-of c k xs e; frames = keeps }
+
+pub tallied-run-of : (c : CourseTold) (k : Keep) (xs : List Outcome) → KeepsTally k → map outcome_told xs ≡ outcomes_before c k (length (segments_in c.plan))
+    → IsTalliedRunOf c (length xs) (λ s. (outcome_at (all_told xs) s).kept) (λ s. (outcome_at (all_told xs) s).closing)
+unfolding run-of
+tallied-run-of c k xs keeps e = record { run = run-of c k xs e; tally = keeps }
+
 pub listed-run-of : (c : CourseTold) (xs : List Outcome) → map outcome_told xs ≡ outcomes_before c keeping.Entries (length (segments_in c.plan))
     → IsListedRunOf c (length xs) (λ s. (outcome_at (all_told xs) s).kept) (λ s. (outcome_at (all_told xs) s).closing)
 listed-run-of c xs e = record {
@@ -57,4 +68,5 @@ pub run-of-listed : (c : CourseTold) (held : ℕ) (kept_of : ℕ → KeptTold) (
 run-of-listed c held kept_of closing_of run = record { all = run.all; keep = keeping.Entries; kept = run.entries; closing = run.closing }
 
 pub framed-of-listed : (c : CourseTold) (held : ℕ) (kept_of : ℕ → KeptTold) (closing_of : ℕ → Closing) → IsListedRunOf c held kept_of closing_of → IsFramedRunOf c held kept_of closing_of
+unfolding run-of-listed
 framed-of-listed c held kept_of closing_of run = record { run = run-of-listed c held kept_of closing_of run; frames = tt }

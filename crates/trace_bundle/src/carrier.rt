@@ -25,6 +25,7 @@ pub trait Carrier<D> {
     /// Carries what is kept of a segment's own entries, as bytes that it takes for it.
     fn segment(&self, to: &mut D, segment: u32, kept: &Kept) -> Result<(), Self::Error>
         requires writable { IsWritable (kept_told kept.now) }
+        requires own { (bytes : List ℕ) × IsOwn self.now segment (kept_told kept.now) bytes }
         ensures { (bytes : List ℕ) → IsOwn self.now segment (kept_told kept.now) bytes → Carried to.old to.new bytes 1 result };
 
     /// No bytes are no part.

@@ -8,7 +8,7 @@ use Rattle.rewind_desk.proofs.chain.first_on_chain.Goals as goal
 pub loop-parent-init : goal.loop-parent-init
 loop-parent-init c = record {
   exists = c.requires;
-  on = on-self c.args.course.now.plan c.args.last (course-tree c.args.course.now c.is_course.ensures) c.requires;
+  on = on-self c.args.course.now.plan c.args.last (course-tree c.args.course.now c.know_course.ensures) c.requires;
   early = omega arith;
 }
 
@@ -21,6 +21,12 @@ loop-parent-preserved c =
     let earlier = (c.segment.ensures.parent q c.in-Some.is).earlier in
     record {
       exists = omega (arith, earlier, i.exists);
-      on = on-parents p c.args.last c.loop-parent.at q (course-tree c.args.course.now c.is_course.ensures) c.requires i.on some;
+      on = on-parents p c.args.last c.loop-parent.at q (course-tree c.args.course.now c.know_course.ensures) c.requires i.on some;
       early = omega (arith, earlier, i.early);
     }
+
+pub loop-parent-smaller : goal.loop-parent-smaller
+loop-parent-smaller c = omega (arith, (c.segment.ensures.parent c.in-Some.parent c.in-Some.is).earlier)
+
+pub returns-clause-first : goal.returns-clause-first
+returns-clause-first c = sym (ap (λ (x : Segment). x.parent) c.segment.ensures.value) ∙ c.in_default.is

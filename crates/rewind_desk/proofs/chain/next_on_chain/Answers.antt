@@ -8,7 +8,7 @@ use Rattle.rewind_desk.proofs.chain.next_on_chain.Goals as goal
 pub loop-parent-init : goal.loop-parent-init
 loop-parent-init c = record {
   exists = c.requires.last;
-  on = on-self c.args.course.now.plan c.args.last (course-tree c.args.course.now c.is_course.ensures) c.requires.last;
+  on = on-self c.args.course.now.plan c.args.last (course-tree c.args.course.now c.know_course.ensures) c.requires.last;
   behind = c.requires.on;
   further = λ e. c.requires.further (sym e);
   early = omega arith;
@@ -20,7 +20,7 @@ loop-parent-preserved c =
     let i = c.loop-parent.invariant in
     let at = c.loop-parent.at in
     let q = c.in-Some.parent in
-    let t = course-tree c.args.course.now c.is_course.ensures in
+    let t = course-tree c.args.course.now c.know_course.ensures in
     let some : (segment_at p at).parent ≡ Some q = sym (ap (λ (x : Segment). x.parent) c.segment.ensures.value) ∙ c.in-Some.is in
     let earlier = (c.segment.ensures.parent q c.in-Some.is).earlier in
     record {
@@ -34,3 +34,16 @@ loop-parent-preserved c =
 pub returns-then-parent-from-clause-parent : goal.returns-then-parent-from-clause-parent
 returns-then-parent-from-clause-parent c =
     sym (ap (λ (x : Segment). x.parent) c.segment.ensures.value) ∙ c.in-Some.is ∙ ap (λ (x : ℕ). Some x) c.if-parent-from.true
+
+pub returns-then-parent-from-clause-later : goal.returns-then-parent-from-clause-later
+returns-then-parent-from-clause-later c = omega (arith, c.if-parent-from.true, (c.segment.ensures.parent c.in-Some.parent c.in-Some.is).earlier)
+
+pub loop-parent-smaller : goal.loop-parent-smaller
+loop-parent-smaller c = omega (arith, (c.segment.ensures.parent c.in-Some.parent c.in-Some.is).earlier)
+
+pub unreachable-requires : goal.unreachable-requires
+unreachable-requires c =
+    let p = c.args.course.now.plan in
+    let i = c.loop-parent.invariant in
+    let none : (segment_at p c.loop-parent.at).parent ≡ None = sym (ap (λ (x : Segment). x.parent) c.segment.ensures.value) ∙ c.in_default.is in
+    i.further (on-first p c.loop-parent.at c.args.from none i.behind)

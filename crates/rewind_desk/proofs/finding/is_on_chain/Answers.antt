@@ -21,8 +21,16 @@ loop-at-preserved c =
       same = sym (on-further p at q c.args.segment (course-tree k c.segment.ensures.course) c.loop-at.invariant.exists some c.loop-at-test.true) ∙ c.loop-at.invariant.same;
     }
 
+pub loop-at-smaller : goal.loop-at-smaller
+loop-at-smaller c = omega (arith, (c.segment.ensures.parent c.in-Some.parent c.in-Some.is).earlier)
+
 pub returns-in_default : goal.returns-in_default
 returns-in_default c =
     let p = c.args.course.now.plan in
     let none : (segment_at p c.loop-at.at).parent ≡ None = sym (ap (λ (x : Segment). x.parent) c.segment.ensures.value) ∙ c.in_default.is in
     sym (sym c.loop-at.invariant.same ∙ on-alone p c.loop-at.at c.args.segment none c.loop-at-test.true)
+
+pub returns : goal.returns
+returns c =
+    let k = c.args.course.now in
+    sym (sym c.loop-at.invariant.same ∙ on-at k.plan c.loop-at.at c.args.segment (course-tree k c.know_course.ensures) c.loop-at.invariant.exists c.loop-at-test.false)

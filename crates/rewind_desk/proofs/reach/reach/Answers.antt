@@ -22,3 +22,26 @@ loop-at-preserved g c = record {
   ticks = omega (arith, c.in-Ok-onward.ensures.ticks, c.loop-at.invariant.ticks);
   least = omega (arith, c.loop-at.invariant.least, c.onward.ensures.least);
 }
+
+pub loop-at-smaller : goal.loop-at-smaller
+loop-at-smaller g c = omega (arith, c.next_on_chain-next.ensures.later, c.next_on_chain-next.ensures.early)
+
+pub onward-requires-clause-count : goal.onward-requires-clause-count
+onward-requires-clause-count g c =
+    let within = at-within c.args.course.now c.loop-at.at c.args.event c.loop-at.arrival.kernel c.loop-at.arrival.has_more c.loop-at.invariant.reached in
+    omega (arith, within, c.loop-at.invariant.ticks, c.requires.count)
+
+pub returns-in_default-onward-clause-least : goal.returns-in_default-onward-clause-least
+returns-in_default-onward-clause-least g c = omega (arith, c.loop-at.invariant.least, c.onward.ensures.least)
+
+pub returns-in_default-onward-clause-most : goal.returns-in_default-onward-clause-most
+returns-in_default-onward-clause-most g c = omega (arith, c.loop-at.invariant.ticks, c.onward.ensures.most)
+
+pub returns-clause-at : goal.returns-clause-at
+returns-clause-at g c =
+    subst (λ (s : ℕ). IsAt c.args.course.now s c.args.event c.loop-at.arrival.kernel c.loop-at.arrival.has_more) c.loop-at-test.false c.loop-at.invariant.reached
+
+pub returns-clause-most : goal.returns-clause-most
+returns-clause-most g c =
+    let within = at-within c.args.course.now c.loop-at.at c.args.event c.loop-at.arrival.kernel c.loop-at.arrival.has_more c.loop-at.invariant.reached in
+    omega (arith, within, c.loop-at.invariant.ticks)

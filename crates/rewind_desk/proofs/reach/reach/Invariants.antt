@@ -11,7 +11,7 @@ invariant-loop-at g l = record {
   on : IsOn l.course.plan l.segment l.at;
   early : l.at ≤ l.segment;
   reached : IsAt l.course l.at l.event l.arrival.kernel l.arrival.has_more;
-  ticks : l.steps + events_of l.near ≡ l.fn.steps + l.arrival.kernel.events;
+  ticks : l.steps + events_of l.fn.near ≡ l.fn.steps + l.arrival.kernel.events;
   least : l.fn.steps ≤ l.steps;
 }
 

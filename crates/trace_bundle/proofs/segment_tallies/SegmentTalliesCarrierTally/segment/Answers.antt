@@ -1,8 +1,13 @@
-use Rattle.std.proofs.Common.{arith, sym, subst, ◌∙◌}
+use Rattle.std.proofs.Common.{arith, rules, sym, subst, ◌∙◌}
 use Rattle.std.proofs.lemmas.List.{get_or_default}
 use Rattle.kernel_copy.specs.Tallies.{IsTallyOf, no_tally}
 use Rattle.kernel_copy.specs.declared.tally.Tally.{Tally}
 use Rattle.trace_bundle.proofs.segment_tallies.SegmentTalliesCarrierTally.segment.Goals as goal
+
+pub index-requires : goal.index-requires
+index-requires c =
+    let there = c.requires.own.1.there in
+    search rules
 
 pub returns : goal.returns
 returns c = λ bytes stands. record {
