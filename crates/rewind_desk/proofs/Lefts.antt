@@ -95,8 +95,8 @@ pub after-left : (c : CourseTold) (stride places workers : ℕ) (shelf : ClosedT
     → AreLeft c (layout c.plan stride places) (is_held shelf)
 after-left c stride places workers shelf h keys after =
     let here = left-here shelf stride (subst (λ (x : CourseTold). IsCourse x) (sym after.course) h) (after.once.laid ∙ ap Some (sym after.plan))
-        (ap (λ (p : ShelfPlan). p.grid) after.plan ∙ ap (λ (x : CourseTold). grid_keys x.plan stride) (sym after.course)) keys
-        (after-held c stride places workers shelf after) in
+    (ap (λ (p : ShelfPlan). p.grid) after.plan ∙ ap (λ (x : CourseTold). grid_keys x.plan stride) (sym after.course)) keys
+    (after-held c stride places workers shelf after) in
     subst (λ (p : ShelfPlan). AreLeft c p (is_held shelf)) after.plan (subst (λ (x : CourseTold). AreLeft x shelf.plan (is_held shelf)) after.course here)
 
 -- the nearest of states that were left is no farther than the nearest that is sure to be
@@ -220,7 +220,7 @@ left-one c stride places held b e h ample left =
     let laid = layout c.plan stride places in
     let s = last_of c.plan.branches b in
     let most : nearest_of c laid held b e ≤ sure c laid b e = most-bound (count_at c) (λ k. held k && is_near c s e k) (sure c laid b e) (keys_in laid)
-        (λ k i near. possible-least c stride places b e h ample k i (left.possible k i (and_left (held k) (is_near c s e k) near)) (and_right (held k) (is_near c s e k) near)) in
+    (λ k i near. possible-least c stride places b e h ample k i (left.possible k i (and_left (held k) (is_near c s e k) near)) (and_right (held k) (is_near c s e k) near)) in
     omega (arith, most, left-least c laid held b e left)
 
 pub possible-one : (c : CourseTold) (stride places b e : ℕ) → IsCourse c → (places ≡ 0) ⊎ (length (grid_keys c.plan stride) ≤ places)
@@ -229,7 +229,7 @@ possible-one c stride places b e h ample =
     let laid = layout c.plan stride places in
     let s = last_of c.plan.branches b in
     let most : nearest_of c laid (is_possible c laid) b e ≤ sure c laid b e = most-bound (count_at c) (λ k. is_possible c laid k && is_near c s e k) (sure c laid b e) (keys_in laid)
-        (λ k i near. possible-least c stride places b e h ample k i (and_left (is_possible c laid k) (is_near c s e k) near) (and_right (is_possible c laid k) (is_near c s e k) near)) in
+    (λ k i near. possible-least c stride places b e h ample k i (and_left (is_possible c laid k) (is_near c s e k) near) (and_right (is_possible c laid k) (is_near c s e k) near)) in
     let least : sure c laid b e ≤ nearest_of c laid (is_possible c laid) b e = most-fewer (count_at c) (is_sure_near c laid s e) (λ k. is_possible c laid k && is_near c s e k) (keys_in laid)
-        (λ k i near. and-true (is_possible c laid k) (is_near c s e k) (sure-possible c laid k (and_left (is_sure c laid k) (is_near c s e k) near)) (and_right (is_sure c laid k) (is_near c s e k) near)) in
+    (λ k i near. and-true (is_possible c laid k) (is_near c s e k) (sure-possible c laid k (and_left (is_sure c laid k) (is_near c s e k) near)) (and_right (is_sure c laid k) (is_near c s e k) near)) in
     omega (arith, most, least)

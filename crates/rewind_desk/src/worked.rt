@@ -5,11 +5,10 @@ ghost use Rattle.branch_tree.specs.declared.stop.Stop.TheVariants as stop;
 ghost use Rattle.market_floor.specs.OpeningWorked.{market, watcher};
 ghost use Rattle.kernel_core.specs.Open.{opened};
 ghost use Rattle.branch_workers.specs.Layout.{layout};
-ghost use Rattle.rewind_desk.specs.Best.{most_among};
-ghost use Rattle.rewind_desk.specs.Left.{is_possible, nearest_of};
+ghost use Rattle.rewind_desk.specs.Best.{keys_in, most_among};
+ghost use Rattle.rewind_desk.specs.Left.{is_possible};
 ghost use Rattle.rewind_desk.specs.Nearest.{nearer_of};
 ghost use Rattle.rewind_desk.specs.Reach.{has_more};
-ghost use Rattle.rewind_desk.specs.Sure.{sure};
 ghost use Rattle.rewind_desk.specs.Worked.{key_at, near_at, six_events};
 
 /// Of three keys whose states have 5, 9 and 2 events the one with 5 has the most up to 7; none has up to 1.
@@ -35,11 +34,10 @@ pub fn more_before_a_stop()
     ensures quiet { has_more (market 1005 0 []) (stop.At 100) (opened (market 1005 0 [])) ≡ false }
 {}
 
-/// A run has six events, of at most ten, and a copy is kept each four. The state after four may be left, and is sure to be; under 8,
-/// which the run doesn't reach, none may. So the nearest to the last event is two before it, whatever the workers do.
+/// A run has six events, of at most ten, and a copy is kept each four. The state after four may be left; under 8, which the run
+/// doesn't reach, none may.
 pub fn nothing_is_left_past_the_end()
+    ensures keys { keys_in (layout six_events.plan 4 16) ≡ key_at 0 4 ∷ key_at 0 8 ∷ [] }
     ensures there { is_possible six_events (layout six_events.plan 4 16) (key_at 0 4) ≡ true }
     ensures past { is_possible six_events (layout six_events.plan 4 16) (key_at 0 8) ≡ false }
-    ensures possible { nearest_of six_events (layout six_events.plan 4 16) (is_possible six_events (layout six_events.plan 4 16)) 0 6 ≡ 4 }
-    ensures sure { sure six_events (layout six_events.plan 4 16) 0 6 ≡ 4 }
 {}

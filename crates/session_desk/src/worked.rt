@@ -1,13 +1,10 @@
 //! What the definitions say of a small tree. The functions do nothing: each of their clauses is proved by computation.
 
-ghost use Rattle.std.specs.Prelude.{◌≡◌, ◌∷◌, [], true, false, None, Some, codes};
+ghost use Rattle.std.specs.Prelude.{◌≡◌, ◌∷◌, [], true, false, None, Some};
 ghost use Rattle.branch_tree.specs.declared.branch.Branch.{Branch};
 ghost use Rattle.branch_tree.specs.Worked.{nested};
 ghost use Rattle.kernel_copy.specs.Courses.{CourseTold};
-ghost use Rattle.rewind_desk.specs.Worked.{six_events};
-ghost use Rattle.session_desk.specs.declared.act.Act.TheVariants as act;
-ghost use Rattle.session_desk.specs.Counted.{all_reached, all_run, surely_kept};
-ghost use Rattle.session_desk.specs.Session.{first_session, is_own};
+ghost use Rattle.session_desk.specs.Session.{is_own};
 ghost use Rattle.session_desk.specs.TreeActs.{fork, undo, edit, after_acts};
 ghost use Rattle.session_desk.specs.Anchors.{anchor_of, follower_of, shared_count};
 ghost use Rattle.session_desk.specs.Worked.{nested_session};
@@ -30,14 +27,4 @@ pub fn branches_that_acts_made_their_own()
     ensures edited { (c : CourseTold) → (after_acts (nested_session c (true ∷ true ∷ true ∷ [])) (edit 1 [] ∷ [])).own ≡ true ∷ false ∷ true ∷ [] }
     ensures undone { (c : CourseTold) (b : Branch) → (after_acts (nested_session c (true ∷ true ∷ true ∷ [])) (fork b ∷ undo ∷ [])).branches ≡ nested }
     ensures forked { (c : CourseTold) (b : Branch) → is_own (after_acts (nested_session c (true ∷ true ∷ true ∷ [])) (undo ∷ fork b ∷ [])) 2 ≡ false }
-{}
-
-/// A run has six events, of at most ten, and a copy is kept each four. From the one at 4 a rewind to 5 makes one step and a closing
-/// two; a branch that an act forks after two events has no state of its own there, so a rewind of it to 5 makes all five. Values are
-/// told of a whole run.
-pub fn steps_of_a_small_session()
-    ensures rewound { all_reached (surely_kept six_events 4 16) (first_session six_events) (act.Rewind (codes "root") 5 ∷ []) ≡ 1 }
-    ensures closed { all_reached (surely_kept six_events 4 16) (first_session six_events) (act.Close (codes "root") ∷ []) ≡ 2 }
-    ensures forked { all_reached (surely_kept six_events 4 16) (first_session six_events) (act.Fork (codes "v") (codes "root") 2 [] ∷ act.Rewind (codes "v") 5 ∷ []) ≡ 5 }
-    ensures all { all_run (first_session six_events) (act.Values (codes "root") ∷ []) ≡ 6 }
 {}

@@ -6,7 +6,7 @@ use Rattle.rewind_desk.proofs.Chained.{on-alone, on-at, on-further}
 use Rattle.rewind_desk.proofs.finding.is_on_chain.Goals as goal
 
 pub loop-at-init : goal.loop-at-init
-loop-at-init c = record { exists = c.requires; same = refl; }
+loop-at-init c = record { exists = c.requires; same = refl }
 
 pub loop-at-preserved : goal.loop-at-preserved
 loop-at-preserved c =

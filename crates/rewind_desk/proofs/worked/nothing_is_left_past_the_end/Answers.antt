@@ -12,4 +12,4 @@ use Rattle.rewind_desk.proofs.worked.nothing_is_left_past_the_end.Goals as goal
 
 pub returns : goal.returns
 unfolding begun segment_end event_of advanced edited_one reaction ruled u32_at block_word double_rounds column_round diagonal_round quarter_round
-returns c = record { there = refl; past = refl; possible = refl; sure = refl }
+returns c = record { keys = refl; there = refl; past = refl }
