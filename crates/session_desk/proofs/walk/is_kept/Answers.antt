@@ -5,7 +5,7 @@ use Rattle.session_desk.proofs.Anchors.{kept-other, kept-own, kept-root}
 use Rattle.session_desk.proofs.walk.is_kept.Goals as goal
 
 pub loop-at-init : goal.loop-at-init
-loop-at-init c = record { exists = c.requires; same = refl; }
+loop-at-init c = record { exists = c.requires; same = refl }
 
 pub loop-at-preserved : goal.loop-at-preserved
 loop-at-preserved c =
