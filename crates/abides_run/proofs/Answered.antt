@@ -46,6 +46,7 @@ refusal come bytes events more most old new writes steps taken st is other cause
   output = λ e. absurd (other e);
   counter = counts;
   cause = cause;
+  session = λ e. absurd (other e);
   exact = λ n r. inl (sym is);
   prefix = nothing_taken taken bytes;
   complete = λ s r w. absurd (nothing_due come st is other s);
@@ -72,6 +73,7 @@ fulfilled come bytes events more most old new writes steps taken status.ReadFaul
   output = λ e. cc;
   counter = refl;
   cause = cause;
+  session = λ e. cc;
   exact = λ n r. absurd (r (fault refl));
   prefix = nothing_taken taken bytes;
   complete = λ s r w. absurd (r (fault refl));
@@ -98,6 +100,7 @@ fulfilled come bytes events more most old new writes steps taken status.Memory e
   output = λ e. cc;
   counter = (omega arith, omega arith, λ n. absurd (n refl));
   cause = tt;
+  session = λ e. cc;
   exact = λ n r. inr refl;
   prefix = nothing_taken taken bytes;
   complete = λ s r w. inr refl;
@@ -211,6 +214,7 @@ turned_told (Some library) words probes before after st other still f = record {
   output = λ e. cc;
   counter = turned_counter (distinct (verdict library words)) (allowance (verdict library words)) (ceiling (verdict library words)) before.steps after.steps before.taken after.taken st other still f.counter;
   cause = tt;
+  session = λ e. cc;
   exact = λ n r. inr refl;
   prefix = f.prefix;
   complete = λ e r w. inr refl;

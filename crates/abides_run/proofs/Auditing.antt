@@ -61,7 +61,7 @@ pub passed-finishes : (r : Read) (b : BundleTold) (probes : Probes) (before afte
 passed-finishes r b probes before after st told name is none same p =
     subst (λ (v : Verdict). Finished v probes [] before after told name) (sym (audit_comes r b None is none))
     (subst (λ (x : Status). Finished (accepted (audited b)) probes [] before after x name) (sym same)
-    (performed_finishes probes (audited b) [] before after st name p))
+    (performed_finishes probes (audited b) [] before after st name p (λ e. tt)))
 
 -- memory was wanting for the audit
 pub unaudited-finishes : (come : Verdict) (probes : Probes) (reads writes steps : ℕ) (taken : Option (List ℕ)) (st : Status) (name : List ℕ)

@@ -20,7 +20,7 @@ use Rattle.session_desk.specs.Refused.{act_refused}
 use Rattle.study_rules.specs.Accepted.{StudyTold}
 use Rattle.abides_run.specs.Fetched.{IsAmong}
 use Rattle.abides_run.specs.Notes.{past_event}
-use Rattle.abides_run.specs.Output.{Probes, carried_out, least_reached, most_reached, study_events}
+use Rattle.abides_run.specs.Output.{Probes, carried_out, SessionRose, least_reached, most_reached, study_events}
 use Rattle.abides_run.specs.Sessions.{act_word, act_words, act_words_before, status_for}
 use Rattle.abides_run.specs.Verdict.{Verdict, accepted, bad_script, refused_act, ceiling, verdict_on_acts, verdict_on_past_act, verdict_on_script, verdict_on_session}
 use Rattle.abides_run.specs.Headline.{Seen}
@@ -163,9 +163,10 @@ pub acts-answered : (acts : List Act) (places : ℕ) (s : StudyTold) (probes : P
     → past_act (first_session s.course) acts ≡ None → told ≡ st
     → Performed (session_bytes probes.meanings (first_session s.course) acts) (study_events s.course + all_run (first_session s.course) acts + least_reached s places acts)
     (most_reached s places acts - least_reached s places acts) (study_events s.course + length acts * s.course.opening.limit) before after st
+    → (st ≡ status.Ok → SessionRose s places acts before.steps after.steps)
     → Finished (verdict_on_past_act acts places s (past_act (first_session s.course) acts)) probes arguments before after told name
-acts-answered acts places s probes arguments before after st told name none same p =
+acts-answered acts places s probes arguments before after st told name none same p rose =
     let due = carried_out acts places s in
     subst (λ (v : Verdict). Finished v probes arguments before after told name) (sym (ap (λ (x : Option PastAct). verdict_on_past_act acts places s x) none))
     (subst (λ (x : Status). Finished (accepted due) probes arguments before after x name) (sym same)
-    (performed_finishes probes due arguments before after st name p))
+    (performed_finishes probes due arguments before after st name p rose))

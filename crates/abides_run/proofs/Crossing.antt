@@ -91,4 +91,4 @@ late-finishes word target stock orders places s probes arguments before after st
     subst (λ (v : Verdict). Finished v probes arguments before after told name)
     (sym (ap (λ (x : Option Past). verdict_on_late word target stock orders places s x) none))
     (subst (λ (x : Status). Finished (accepted due) probes arguments before after x name) (sym same)
-    (performed_finishes probes due arguments before after st name p))
+    (performed_finishes probes due arguments before after st name p (λ e. tt)))

@@ -35,6 +35,7 @@ wants come probes arguments reads writes old new taken name least most = record 
     output = λ e. cc;
     counter = (least, most, λ n. absurd (n refl));
     cause = tt;
+    session = λ e. cc;
     exact = λ n r. inr refl;
     prefix = nothing_taken taken (output probes come);
     complete = λ s r w. inr refl;
@@ -147,6 +148,7 @@ lacks-event word last s past probes arguments reads writes old new taken least m
     output = λ e. cc;
     counter = (least, omega (arith, most));
     cause = refl;
+    session = λ e. cc;
     exact = λ n r. inl refl;
     prefix = nothing_taken taken (output probes (no_event word last s past));
     complete = λ s r w. absurd s;
@@ -211,4 +213,4 @@ aimed-finishes marks places s targets probes arguments before after st told name
     subst (λ (v : Verdict). Finished v probes arguments before after told name)
     (sym (ap (λ (a : Aimed). verdict_on_aimed marks places s a) aims ∙ ap (λ (x : Option Past). verdict_on_past marks targets places s x) none))
     (subst (λ (x : Status). Finished (accepted due) probes arguments before after x name) (sym same)
-    (performed_finishes probes due arguments before after st name p))
+    (performed_finishes probes due arguments before after st name p (λ e. tt)))

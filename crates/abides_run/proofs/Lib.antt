@@ -12,6 +12,7 @@ pub mod Holding
 pub mod Honesty
 pub mod Keeping
 pub mod Noting
+pub mod OneNumber
 pub mod Performing
 pub mod Speaking
 pub mod Strides

@@ -8,7 +8,7 @@ use Rattle.command_words.specs.declared.asked.Task.{Task}
 use Rattle.command_words.specs.declared.asked.Crossing.{Crossing}
 use Rattle.command_words.specs.declared.asked.Task.TheVariants.{Rewind, Cross, Session}
 use Rattle.abides_run.specs.Fetched.{arguments_of}
-use Rattle.abides_run.specs.Output.{Probes, Due, written, simulated, allowed, most_for}
+use Rattle.abides_run.specs.Output.{Probes, Due, RoseFor, written, simulated, allowed, most_for}
 use Rattle.abides_run.specs.Verdict.{Verdict, accepted, verdict_on_crossing, verdict_on_session, verdict_on_found, IsDue}
 use Rattle.abides_run.specs.Statuses.{Cause, Counts, IsRefusal, IsStill, Names, NamesOne}
 use Rattle.abides_run.specs.Headline.{Seen, Fulfilled}
@@ -151,10 +151,12 @@ performed_complete st old new (inr u) fault r = inr (unsent_wanting st old new u
 
 performed_fulfils : (probes : Probes) (due : Due) (before after : Seen) (st : Status)
     → Performed (written probes due) (simulated due) (allowed due) (most_for due) before after st
+    → (st ≡ status.Ok → RoseFor due before.steps after.steps)
     → Fulfilled (accepted due) (written probes due) (simulated due) (allowed due) (most_for due) before after st
-performed_fulfils probes due before after st p = record {
+performed_fulfils probes due before after st p rose = record {
   output = p.whole;
   counter = p.counter;
+  session = rose;
   cause = performed_cause (accepted due) st tt p.ended;
   exact = λ n r. absurd (n tt);
   prefix = p.cut;
@@ -195,11 +197,12 @@ performed_done st (inr u) = unsent_done st u
 -- what is due was done
 pub performed_finishes : (probes : Probes) (due : Due) (arguments : List (List ℕ)) (before after : Seen) (st : Status) (name : List ℕ)
     → Performed (written probes due) (simulated due) (allowed due) (most_for due) before after st
+    → (st ≡ status.Ok → RoseFor due before.steps after.steps)
     → Finished (accepted due) probes arguments before after st name
-performed_finishes probes due arguments before after st name p =
+performed_finishes probes due arguments before after st name p rose =
     let done = performed_done st p.ended in record {
       final = done.final;
-      fulfilled = performed_fulfils probes due before after st p;
+      fulfilled = performed_fulfils probes due before after st p rose;
       named = λ fetched. done.names (accepted due) fetched name;
       argument = done.argument arguments name;
       fault = p.fault;
@@ -213,22 +216,24 @@ performed_finishes probes due arguments before after st name p =
 -- the same, and its status was told with a name
 pub due_finishes : (probes : Probes) (due : Due) (arguments : List (List ℕ)) (before after : Seen) (st told : Status) (name : List ℕ) → told ≡ st
     → Performed (written probes due) (simulated due) (allowed due) (most_for due) before after st
+    → (st ≡ status.Ok → RoseFor due before.steps after.steps)
     → Finished (accepted due) probes arguments before after told name
-due_finishes probes due arguments before after st told name same p =
+due_finishes probes due arguments before after st told name same p rose =
     subst (λ (x : Status). Finished (accepted due) probes arguments before after x name) (sym same)
-    (performed_finishes probes due arguments before after st name p)
+    (performed_finishes probes due arguments before after st name p rose)
 
 -- a task of which this is due was performed
 pub task_finishes : (probes : Probes) (t u : Task) (further : Option (List ℕ)) (due : Due) (s : StudyTold) (writes now old new : ℕ) (before after : Option (List ℕ)) (st told : Status) (name : List ℕ)
     → t ≡ u → told ≡ st → verdict_on_found u further s ≡ accepted due
     → ((reads : ℕ) → Performed (written probes due) (simulated due) (allowed due) (most_for due) (record { reads = reads; writes = writes; taken = before; steps = old }) (record { reads = reads; writes = now; taken = after; steps = new }) st)
+    → (st ≡ status.Ok → RoseFor due old new)
     → (reads : ℕ) → Finished (verdict_on_found t further s) probes (arguments_of t) (record { reads = reads; writes = writes; taken = before; steps = old }) (record { reads = reads; writes = now; taken = after; steps = new }) told name
-task_finishes probes t u further due s writes now old new before after st told name is same come p reads =
+task_finishes probes t u further due s writes now old new before after st told name is same come p rose reads =
     let was : Seen = record { reads = reads; writes = writes; taken = before; steps = old } in
     let seen : Seen = record { reads = reads; writes = now; taken = after; steps = new } in
     subst (λ (x : Task). Finished (verdict_on_found x further s) probes (arguments_of x) was seen told name) (sym is)
     (subst (λ (v : Verdict). Finished v probes (arguments_of u) was seen told name) (sym come)
-    (due_finishes probes due (arguments_of u) was seen st told name same (p reads)))
+    (due_finishes probes due (arguments_of u) was seen st told name same (p reads) rose))
 
 -- the same of a rewind, which ends as its parts say
 pub rewind_finishes : (probes : Probes) (t : Task) (further : Option (List ℕ)) (marks shown : List Mark) (places : ℕ) (s : StudyTold) (writes now old new : ℕ) (before after : Option (List ℕ)) (st : Status) (name : List ℕ)

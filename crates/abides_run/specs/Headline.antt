@@ -8,7 +8,7 @@ use Rattle.outside.specs.Taken.{appended, TookPrefix}
 use Rattle.study_rules.specs.Accepted.{StudyTold, study_of}
 use Rattle.command_words.specs.declared.asked.Request.TheVariants.{Bundle}
 use Rattle.abides_run.specs.Words.{asked_of, IsLarge}
-use Rattle.abides_run.specs.Verdict.{Verdict, Files, most_bundle_bytes, verdict, IsDue, output, distinct, allowance, ceiling}
+use Rattle.abides_run.specs.Verdict.{Verdict, Files, most_bundle_bytes, verdict, IsDue, output, distinct, allowance, ceiling, RoseBy}
 use Rattle.abides_run.specs.Output.{Probes, study_bundle}
 use Rattle.abides_run.specs.Fetched.{arguments_in, fetched}
 use Rattle.abides_run.specs.Statuses.{Cause, Counts, IsRefusal, IsStill, Names, SpeaksFor, NamesOne, status_of}
@@ -34,6 +34,8 @@ pub record Fulfilled (come : Verdict) (bytes : List ℕ) (events more most : ℕ
   -- besides those of each full run that its acts tell values of, and those that lead to its answers from kept states: at least from
   -- the nearest that may be kept, and at most from the nearest that are sure to be.
   pub counter : Counts events more most before.steps after.steps before.taken after.taken status
+  -- For a session whose answers were written, exactly how many: no act goes uncounted, and only states that may be kept count.
+  pub session : status ≡ Ok → RoseBy come before.steps after.steps
   -- Each status has its cause, and where nothing is due and with no fault each cause its status.
   pub cause : Cause come status
   pub exact : ¬ IsDue come → ¬ (Rose before.reads after.reads) → (status ≡ status_of come) ⊎ (status ≡ Memory)

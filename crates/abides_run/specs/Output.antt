@@ -1,7 +1,8 @@
 -- What is written for an accepted study or a bundle that passes an audit, and how many events are simulated for it.
-use Rattle.std.specs.Prelude.{ℕ, ◌+◌, ◌-◌, ◌*◌, List, [], ◌∷◌, ◌++◌, length, codes}
+use Rattle.std.specs.Prelude.{◌≡◌, ℕ, Bool, ◌+◌, ◌-◌, ◌*◌, List, [], ◌∷◌, ◌++◌, length, codes}
 use Rattle.std.specs.Fmt.{decimal}
 use Rattle.branch_tree.specs.Segments.{segments_in}
+use Rattle.shelf_core.specs.declared.plan.Key.{Key}
 use Rattle.kernel_copy.specs.Segmentwise as segmentwise
 use Rattle.kernel_copy.specs.Courses.{CourseTold}
 use Rattle.trace_bundle.specs.Bundle.{bundle_of}
@@ -19,7 +20,7 @@ use Rattle.session_desk.specs.declared.act.Act.{Act}
 use Rattle.session_desk.specs.Session.{first_session}
 use Rattle.session_desk.specs.Answered.{session_bytes}
 use Rattle.session_desk.specs.Counted.{all_reached, all_run, surely_kept}
-use Rattle.abides_run.specs.Placed.{possibly_kept}
+use Rattle.abides_run.specs.Placed.{MayBeKept, kept_under, possibly_kept}
 use Rattle.abides_run.specs.Rewinds.{rewinds_of, steps_to, steps_to_all, target_state}
 
 -- the bundle of a study: the trace of each branch
@@ -86,6 +87,25 @@ least_reached s places acts = all_reached (possibly_kept s.course s.stride place
 -- and at most: those behind the nearest states that are sure to be
 abbrev pub most_reached : StudyTold → ℕ → List Act → ℕ
 most_reached s places acts = all_reached (surely_kept s.course s.stride places) (first_session s.course) acts
+
+-- The steps of a session whose acts these are, exactly: each event of the study's segments once, those of each full run that an act
+-- tells values of, and those that lead to the other answers from the nearest of the states that are kept. Which of the states that
+-- share a place stays there, the order of the workers' steps decides; where none share one, the number is one.
+pub record SessionRose (s : StudyTold) (places : ℕ) (acts : List Act) (old new : ℕ) : Type 0 where
+  pub held : Key → Bool
+  pub kept : MayBeKept s.course s.stride places held
+  pub rose : new ≡ old + study_events s.course + all_run (first_session s.course) acts + all_reached (kept_under s.course s.stride places held) (first_session s.course) acts
+
+-- What a session says so of the counter, where all was written; what else is due says it by the two bounds alone.
+abbrev pub RoseFor : Due → ℕ → ℕ → Type 0
+RoseFor (bundled s) old new = Unit {0}
+RoseFor (counted s) old new = Unit {0}
+RoseFor (compared s) old new = Unit {0}
+RoseFor (described bytes s) old new = Unit {0}
+RoseFor (rewound targets places s) old new = Unit {0}
+RoseFor (crossed target stock orders places s) old new = Unit {0}
+RoseFor (audited b) old new = Unit {0}
+RoseFor (carried_out acts places s) old new = SessionRose s places acts old new
 
 -- A check and an audit simulate nothing. In a session each act that tells values runs its branch from the opening, and one that
 -- tells a state or a closing goes on from a kept state of the study: of a branch that an act forked or edited, from one before its

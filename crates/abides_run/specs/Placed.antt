@@ -1,23 +1,21 @@
--- The states that may be kept on the way: those for which a shelf has a place.
-use Rattle.std.specs.Prelude.{ℕ, Bool, ◌&&◌, is_some}
-use Rattle.branch_tree.specs.Segments.{last_of}
+-- The states that are kept on the way.
+use Rattle.std.specs.Prelude.{ℕ, Bool}
 use Rattle.shelf_core.specs.declared.plan.Key.{Key}
-use Rattle.shelf_core.specs.declared.plan.ShelfPlan.{ShelfPlan}
-use Rattle.shelf_core.specs.Plan.{place_of}
 use Rattle.kernel_copy.specs.Courses.{CourseTold}
 use Rattle.branch_workers.specs.Layout.{layout}
-use Rattle.rewind_desk.specs.Best.{count_at, is_near, keys_in, most_among}
+use Rattle.rewind_desk.specs.Left.{AreLeft, is_possible, nearest_of}
 use Rattle.session_desk.specs.Counted.{Kept}
 
--- a key has a place, its segment is on the chain that ends with s, and its state has at most e events
-abbrev pub is_placed_near : CourseTold → ShelfPlan → ℕ → ℕ → Key → Bool
-is_placed_near c plan s e k = is_some (place_of plan k) && is_near c s e k
+-- The states of these keys may be those that are kept of a course, where a copy is kept each so many events and so many places are
+-- there for the states between the ends of segments: all that are sure to be kept, and of those that share a place one at most.
+abbrev pub MayBeKept : CourseTold → ℕ → ℕ → (Key → Bool) → Type 0
+MayBeKept c stride places held = AreLeft c (layout c.plan stride places) held
 
--- The most events, not more than e, of a state of a branch's chain for which there is a place; 0 where there is none.
-abbrev pub nearest_placed : CourseTold → ShelfPlan → ℕ → ℕ → ℕ
-nearest_placed c plan b e = most_among (count_at c) (is_placed_near c plan (last_of c.plan.branches b) e) (keys_in plan)
+-- how many events the nearest of them has
+abbrev pub kept_under : CourseTold → ℕ → ℕ → (Key → Bool) → Kept
+kept_under c stride places held b e = nearest_of c (layout c.plan stride places) held b e
 
--- The states that may be kept of a course, where a copy is kept each so many events and so many places are there for the states
--- between the ends of segments. With no such places, and where the grid is empty, they are those that are sure to be kept.
+-- The states that may be kept: those that a run reaches and for which there is a place. With no places, with an empty grid and with
+-- a place for each of its states they are those that are sure to be kept.
 abbrev pub possibly_kept : CourseTold → ℕ → ℕ → Kept
-possibly_kept c stride places b e = nearest_placed c (layout c.plan stride places) b e
+possibly_kept c stride places b e = kept_under c stride places (is_possible c (layout c.plan stride places)) b e

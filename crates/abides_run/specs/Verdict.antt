@@ -35,7 +35,7 @@ use Rattle.command_words.specs.declared.asked.Task.TheVariants.{Run, Check, Tabl
 use Rattle.abides_run.specs.Words.{asked_of, further_of}
 use Rattle.abides_run.specs.Rewinds.{lasts_of, argument_at}
 use Rattle.abides_run.specs.Sessions.{act_word, bad_act}
-use Rattle.abides_run.specs.Output.{Probes, Due, bundled, counted, compared, described, rewound, crossed, audited, carried_out, written, simulated, allowed, most_for, study_events}
+use Rattle.abides_run.specs.Output.{Probes, Due, bundled, counted, compared, described, rewound, crossed, audited, carried_out, written, simulated, allowed, most_for, study_events, RoseFor}
 
 -- That bytes are no bundle is told with the number of the reason and its place, that a script or an act is refused with the act's
 -- number. That an event isn't there is told with the last
@@ -283,6 +283,22 @@ distinct (bad_script act) = 0
 distinct (refused_act act) = 0
 distinct (no_event word last study past) = study_events study.course
 distinct (accepted due) = simulated due
+
+-- what else is said of the counter where all was written
+abbrev pub RoseBy : Verdict → ℕ → ℕ → Type 0
+RoseBy usage old new = Unit {0}
+RoseBy (no_file name) old new = Unit {0}
+RoseBy (file_too_long name) old new = Unit {0}
+RoseBy (refused rule place) old new = Unit {0}
+RoseBy (no_branch word) old new = Unit {0}
+RoseBy (no_stock word) old new = Unit {0}
+RoseBy (bad_orders number) old new = Unit {0}
+RoseBy (bad_bundle reason at) old new = Unit {0}
+RoseBy (audit_failed branch reference) old new = Unit {0}
+RoseBy (bad_script act) old new = Unit {0}
+RoseBy (refused_act act) old new = Unit {0}
+RoseBy (no_event word last study past) old new = Unit {0}
+RoseBy (accepted due) old new = RoseFor due old new
 
 -- how many more may be
 abbrev pub allowance : Verdict → ℕ

@@ -7,6 +7,7 @@ mod crosses;
 mod ending;
 mod find;
 mod found;
+pub mod laws;
 mod notes;
 mod perform;
 mod rewinds;

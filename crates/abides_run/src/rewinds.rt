@@ -6,16 +6,14 @@ ghost use Rattle.bundle_frames.specs.Frames.{end_frame};
 ghost use Rattle.trace_bundle.specs.Ran.{IsRunOf};
 ghost use Rattle.command_words.specs.Ranges.{AreMarks};
 ghost use Rattle.kernel_copy.specs.Courses.{IsCourse};
-ghost use Rattle.rewind_desk.specs.Best.{best};
+ghost use Rattle.rewind_desk.specs.AfterWork.{IsAfterWork};
 ghost use Rattle.rewind_desk.specs.Targets.{aimed_at};
 ghost use Rattle.rewind_desk.specs.declared.target.Target.{Target as TargetTold};
-ghost use Rattle.session_desk.specs.Counted.{surely_kept};
 ghost use Rattle.study_rules.specs.Accepted.{study_told};
 ghost use Rattle.abides_run.specs.Fetched.{arguments_of};
 ghost use Rattle.abides_run.specs.Notes.{past_event};
 ghost use Rattle.abides_run.specs.Output.{Probes, study_events};
 ghost use Rattle.abides_run.specs.Performed.{Finished, IsStride, Sent};
-ghost use Rattle.abides_run.specs.Placed.{possibly_kept};
 ghost use Rattle.abides_run.specs.Rewinds.{IsThere, lasts_of, rewinds_of, steps_from, steps_to, target_frames, target_state, argument_at};
 ghost use Rattle.abides_run.specs.Verdict.{verdict_on_found};
 ghost use Rattle.command_words.specs.declared.asked.Task.TheVariants as task;
@@ -201,8 +199,7 @@ pub struct Simulated {
 }
 
 /// Has workers simulate each segment of a study once, while so many grid places keep states. No more steps lead to a target from
-/// the states that were kept than from those that are sure to be, and none of these is nearer than the nearest kept one. No kept
-/// state is nearer than the nearest one that has a place.
+/// the states that were kept than from those that are sure to be.
 pub fn simulate_kept<R: Threads + Wait + Sync, G: Gate + Sync, D: Ledger + Send>(
     rt: &R,
     alloc: Global,
@@ -219,8 +216,7 @@ pub fn simulate_kept<R: Threads + Wait + Sync, G: Gate + Sync, D: Ledger + Send>
     ensures shelf { IfOk result (λ s. s.shelf.course ≡ study.now.course.value) }
     ensures lasts { IfOk result (λ s. s.lasts.items ≡ lasts_of study.now.course.value) }
     ensures near { IfOk result (λ s. (t : TargetTold) → steps_from s.shelf t ≤ steps_to (study_told study.now) places t) }
-    ensures kept { IfOk result (λ s. (b e : ℕ) → surely_kept study.now.course.value study.now.stride places b e ≤ best s.shelf b e) }
-    ensures placed { IfOk result (λ s. (b e : ℕ) → best s.shelf b e ≤ possibly_kept study.now.course.value study.now.stride places b e) }
+    ensures after { IfOk result (λ s. IsAfterWork study.now.course.value study.now.stride places workers s.shelf) }
     ensures few { study_events study.now.course.value < 2 ^ 52 }
     ensures rose { OnOk result (steps.new ≡ steps.old + study_events study.now.course.value) }
     ensures least { steps.old ≤ steps.new }

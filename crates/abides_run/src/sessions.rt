@@ -19,6 +19,7 @@ use crate::status::Status;
 use outside::{Gate, Ledger, Sink, Steps};
 use plain_lists::Memory;
 use probe_desk::Probe;
+use rewind_desk::left::{know_left, left_states_lie_between};
 use session_desk::carried_laws::{branches_fork_by_number, nearer_states_leave_less};
 use session_desk::{Act, PastAct, ScriptError, SessionEnd, carry_out, first_refused, read_script};
 use std::alloc::{AllocError, Global};
@@ -84,12 +85,14 @@ fn reach_and_answer<R: Threads + Wait + Sync, O: Sink, G: Gate + Sync, D: Ledger
         result.status (string_bytes result.name) }
 {
     nearer_states_leave_less();
+    left_states_lie_between();
     let _ = study.course.opening();
     let simulated = match simulate_kept(rt, alloc, study, places, workers, gate, steps) {
         Ok(simulated) => simulated,
         Err(Memory) => return nameless(alloc, Status::Memory),
     };
     let shelf = &simulated.shelf;
+    know_left(&study.course, shelf);
     let answers = match carry_out(alloc, &study.course, shelf, acts, probes, steps) {
         Ok(answers) => answers,
         Err(SessionEnd::NoEvent(past)) => {

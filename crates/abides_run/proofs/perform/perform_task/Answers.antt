@@ -10,21 +10,21 @@ returns-in-Run g c =
     let f = c.args.found.now in
     let is : f.task ≡ Run = search rules in
     task_finishes _ f.task Run (option_map vec_items f.further) (bundled (study_told f.study)) (study_told f.study) (g.O.Sink.faults c.args.out.now) (g.O.Sink.faults c.run_study-status.new.out) c.args.steps.now c.run_study-status.new.steps (g.O.Sink.taken c.args.out.now) (g.O.Sink.taken c.run_study-status.new.out) c.run_study-status.result c.nameless.result.status _
-    is c.nameless.ensures refl c.run_study-status.ensures
+    is c.nameless.ensures refl c.run_study-status.ensures (λ e. tt)
 
 pub returns-in-Check : goal.returns-in-Check
 returns-in-Check g c =
     let f = c.args.found.now in
     let is : f.task ≡ Check = search rules in
     task_finishes _ f.task Check (option_map vec_items f.further) (counted (study_told f.study)) (study_told f.study) (g.O.Sink.faults c.args.out.now) (g.O.Sink.faults c.check_study.new.out) c.args.steps.now c.args.steps.now (g.O.Sink.taken c.args.out.now) (g.O.Sink.taken c.check_study.new.out) c.check_study.result c.nameless-in-Check.result.status _
-    is c.nameless-in-Check.ensures refl (λ reads. (rw c.deref.ensures at c.check_study.ensures) reads c.args.steps.now)
+    is c.nameless-in-Check.ensures refl (λ reads. (rw c.deref.ensures at c.check_study.ensures) reads c.args.steps.now) (λ e. tt)
 
 pub returns-in-Table : goal.returns-in-Table
 returns-in-Table g c =
     let f = c.args.found.now in
     let is : f.task ≡ Table = search rules in
     task_finishes _ f.task Table (option_map vec_items f.further) (compared (study_told f.study)) (study_told f.study) (g.O.Sink.faults c.args.out.now) (g.O.Sink.faults c.table_study-status.new.out) c.args.steps.now c.table_study-status.new.steps (g.O.Sink.taken c.args.out.now) (g.O.Sink.taken c.table_study-status.new.out) c.table_study-status.result c.nameless-in-Table.result.status _
-    is c.nameless-in-Table.ensures refl c.table_study-status.ensures
+    is c.nameless-in-Table.ensures refl c.table_study-status.ensures (λ e. tt)
 
 pub returns-in-Rewind : goal.returns-in-Rewind
 returns-in-Rewind g c =

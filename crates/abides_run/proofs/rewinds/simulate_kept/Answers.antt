@@ -2,7 +2,7 @@ use Rattle.std.proofs.Common.{◌∙◌, ap, arith, subst, sym}
 use Rattle.kernel_copy.specs.Courses.{CourseTold}
 use Rattle.abides_run.specs.Rewinds.{lasts_of}
 use Rattle.abides_run.specs.Simulated.{AreRunOf}
-use Rattle.abides_run.proofs.Keeping.{kept-near, kept-placed, kept-sure}
+use Rattle.abides_run.proofs.Keeping.{kept-near}
 use Rattle.abides_run.proofs.rewinds.simulate_kept.Goals as goal
 
 pub last_events-requires : goal.last_events-requires
@@ -20,17 +20,8 @@ returns-clause-shelf g c = c.in-Ok.ensures.shelf.course
 pub returns-clause-lasts : goal.returns-clause-lasts
 returns-clause-lasts g c = c.in-Ok-last_events.ensures ∙ ap (λ (x : CourseTold). lasts_of x) c.deref.ensures
 
-pub returns-clause-kept : goal.returns-clause-kept
-returns-clause-kept g c =
-    let k : CourseTold = c.args.study.now.course.value in
-    λ b e. kept-sure k c.args.study.now.stride c.args.places c.args.workers c.in-Ok.worked.shelf c.in-Ok.ensures.shelf
-    (λ x i n. c.sure_states_are_held.ensures x i n)
-    (c.rewinds_after_work.ensures.held k c.args.study.now.stride c.args.places c.args.workers c.in-Ok.worked.shelf c.in-Ok.ensures.shelf) b e
-
-pub returns-clause-placed : goal.returns-clause-placed
-returns-clause-placed g c =
-    let k : CourseTold = c.args.study.now.course.value in
-    λ b e. kept-placed k c.args.study.now.stride c.args.places c.args.workers c.in-Ok.worked.shelf c.in-Ok.ensures.shelf b e
+pub returns-clause-after : goal.returns-clause-after
+returns-clause-after g c = c.in-Ok.ensures.shelf
 
 pub returns-clause-near : goal.returns-clause-near
 returns-clause-near g c =

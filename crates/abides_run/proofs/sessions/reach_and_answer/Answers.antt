@@ -1,16 +1,19 @@
 use Rattle.std.proofs.Common.{◌≡◌, ◌≤◌, ◌*◌, ◌∙◌, ℕ, List, Some, length, subst, arith}
 use Rattle.std.proofs.lemmas.Nat.{mul-le}
 use Rattle.kernel_copy.specs.Courses.{CourseTold, IsCourse}
-use Rattle.rewind_desk.specs.Best.{best}
+use Rattle.branch_workers.specs.Layout.{layout}
+use Rattle.rewind_desk.specs.AfterWork.{IsAfterWork}
+use Rattle.rewind_desk.specs.Best.{best, is_held}
 use Rattle.session_desk.specs.Session.{first_session}
-use Rattle.session_desk.specs.Counted.{all_reached, surely_kept}
+use Rattle.session_desk.specs.Counted.{Kept, all_reached, surely_kept}
 use Rattle.session_desk.specs.Past.{past_act}
 use Rattle.study_rules.specs.Accepted.{study_told}
 use Rattle.abides_run.specs.Output.{least_reached, most_reached}
 use Rattle.abides_run.specs.Performed.{Sent}
-use Rattle.abides_run.specs.Placed.{possibly_kept}
+use Rattle.abides_run.specs.Placed.{kept_under, possibly_kept}
 use Rattle.abides_run.specs.Sessions.{act_words}
 use Rattle.abides_run.proofs.Carrying.{acts-answered, acts-eventless, acts-wanting, told-past}
+use Rattle.abides_run.proofs.Keeping.{held-reached, session-rose}
 use Rattle.abides_run.proofs.Performing.{sent_done}
 use Rattle.abides_run.proofs.sessions.reach_and_answer.Goals as goal
 
@@ -36,17 +39,24 @@ returns g c =
     let s = study_told c.args.study.now in
     let acts = c.args.acts.now in
     let shelf = c.in-Ok.simulated.shelf in
-    let saved : all_reached (best shelf) (first_session k) acts ≤ most_reached s c.args.places acts =
-    c.nearer_states_leave_less.ensures (surely_kept k s.stride c.args.places) (best shelf) (first_session k) acts c.in-Ok.ensures.kept in
-    let needed : least_reached s c.args.places acts ≤ all_reached (best shelf) (first_session k) acts =
-    c.nearer_states_leave_less.ensures (best shelf) (possibly_kept k s.stride c.args.places) (first_session k) acts c.in-Ok.ensures.placed in
+    let plan = layout k.plan s.stride c.args.places in
+    let kept : Kept = kept_under k s.stride c.args.places (is_held shelf) in
+    let after : IsAfterWork k s.stride c.args.places c.args.workers shelf = c.in-Ok.ensures.after in
+    let left = c.know_left.ensures s.stride c.args.places c.args.workers after in
+    let same : all_reached (best shelf) (first_session k) acts ≡ all_reached kept (first_session k) acts =
+    held-reached k s.stride c.args.places c.args.workers shelf after (first_session k) acts in
+    let saved : all_reached kept (first_session k) acts ≤ most_reached s c.args.places acts =
+    c.nearer_states_leave_less.ensures (surely_kept k s.stride c.args.places) kept (first_session k) acts (λ b e. c.left_states_lie_between.ensures.least k plan (is_held shelf) b e left) in
+    let needed : least_reached s c.args.places acts ≤ all_reached kept (first_session k) acts =
+    c.nearer_states_leave_less.ensures kept (possibly_kept k s.stride c.args.places) (first_session k) acts (λ b e. c.left_states_lie_between.ensures.most k plan (is_held shelf) b e left) in
     λ reads. acts-answered acts c.args.places s _ _ _ _ _ c.nameless-2.result.status _
     c.in-Ok-carry_out.ensures.within c.nameless-2.ensures
     (sent_done _ _ _ _ reads (g.O.Sink.faults c.args.out.now) (g.O.Sink.faults c.send.new.out) c.args.steps.now c.carry_out.new.steps (g.O.Sink.taken c.args.out.now) (g.O.Sink.taken c.send.new.out)
     c.send.result c.sent_status.result c.sent_status.ensures.ok c.sent_status.ensures.refused
-    (omega (arith, c.in-Ok.ensures.rose, c.in-Ok-carry_out.ensures.rose, needed)) (omega (arith, c.in-Ok.ensures.rose, c.in-Ok-carry_out.ensures.rose, saved, needed)) (omega (arith, c.in-Ok.ensures.rose, c.carry_out.ensures.most))
+    (omega (arith, c.in-Ok.ensures.rose, c.in-Ok-carry_out.ensures.rose, same, needed)) (omega (arith, c.in-Ok.ensures.rose, c.in-Ok-carry_out.ensures.rose, same, saved, needed)) (omega (arith, c.in-Ok.ensures.rose, c.carry_out.ensures.most))
     (subst (λ (bytes : List ℕ). Sent bytes (g.O.Sink.faults c.args.out.now) (g.O.Sink.faults c.send.new.out) (g.O.Sink.taken c.args.out.now) (g.O.Sink.taken c.send.new.out) c.send.result)
     (c.deref-2.ensures.value ∙ c.in-Ok-carry_out.ensures.bytes) c.send.ensures))
+    (λ ok. session-rose s c.args.places c.args.workers acts shelf c.args.steps.now c.simulate_kept.new.steps c.carry_out.new.steps after left c.in-Ok.ensures.rose c.in-Ok-carry_out.ensures.rose)
 
 pub returns-in-Err : goal.returns-in-Err
 returns-in-Err g c =
