@@ -141,7 +141,7 @@ pub sums-part : {X : Type 0} (f : X → List EntryTold) (xs : List X) (i : ℕ) 
     → i < length xs → x ≡ get_or xs i x → AreSums a (flat_map f (take i xs)) → AreSums b (f x) → AreSums s (flat_map f (take (i + 1) xs))
 sums-part f xs i x a b s both within at before own =
     let is : flat_map f (take (i + 1) xs) ≡ flat_map f (take i xs) ++ f x =
-        ap (flat_map f) (take_more xs i x within) ∙ flat_map-append f (take i xs) (get_or xs i x ∷ []) ∙ ap (λ (es : List EntryTold). flat_map f (take i xs) ++ es) (append-nil (f (get_or xs i x)) ∙ ap f (sym at)) in
+    ap (flat_map f) (take_more xs i x within) ∙ flat_map-append f (take i xs) (get_or xs i x ∷ []) ∙ ap (λ (es : List EntryTold). flat_map f (take i xs) ++ es) (append-nil (f (get_or xs i x)) ∙ ap f (sym at)) in
     subst (λ (es : List EntryTold). AreSums s es) (sym is) (both (flat_map f (take i xs)) (f x) before own)
 
 -- ---- what the probes say
