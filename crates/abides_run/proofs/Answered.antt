@@ -3,11 +3,11 @@ use Rattle.std.proofs.Common.{◌≡◌, ◌⊎◌, ◌≤◌, ℕ, List, [], Op
 use Rattle.outside.specs.Rose.{Rose}
 use Rattle.outside.specs.Taken.{TookPrefix}
 use Rattle.abides_run.specs.Words.{asked_of, IsLarge}
-use Rattle.abides_run.specs.Verdict.{Verdict, Files, usage, no_file, file_too_long, refused, no_branch, no_stock, bad_orders, bad_bundle, audit_failed, bad_script, refused_act, no_event, accepted, verdict, IsDue, output, distinct, allowance, ceiling}
+use Rattle.abides_run.specs.Verdict.{Verdict, Files, usage, no_file, file_too_long, refused, no_branch, no_stock, bad_orders, bad_bundle, audit_failed, bad_script, refused_act, no_event, accepted, IsDue, output, distinct, allowance, ceiling}
 use Rattle.abides_run.specs.Output.{Probes}
-use Rattle.abides_run.specs.Fetched.{fetched}
+use Rattle.abides_run.specs.Ahead.{asked_ahead, fetched, verdict}
 use Rattle.abides_run.specs.Statuses.{Cause, Counts, IsRefusal, Names, status_of}
-use Rattle.abides_run.specs.Ends.{Ends, IsSought}
+use Rattle.abides_run.specs.Searched.{Ends, IsSought}
 use Rattle.abides_run.specs.Headline.{Seen, Fulfilled, Answered}
 use Rattle.abides_run.specs.Performed.{Finished, IsFinal}
 use Rattle.abides_run.specs.declared.status.Status.{Status}
@@ -20,19 +20,8 @@ nothing_taken (Some old) bytes = record { part = []; rest = bytes; split = refl;
 
 -- a study has status 0 where nothing fails
 due_is_ok : (come : Verdict) → IsDue come → status_of come ≡ status.Ok
-due_is_ok usage s = absurd s
-due_is_ok (no_file name) s = absurd s
-due_is_ok (file_too_long name) s = absurd s
-due_is_ok (refused rule place) s = absurd s
-due_is_ok (no_branch word) s = absurd s
-due_is_ok (no_stock word) s = absurd s
-due_is_ok (bad_orders number) s = absurd s
-due_is_ok (bad_bundle reason at) s = absurd s
-due_is_ok (audit_failed branch reference) s = absurd s
-due_is_ok (bad_script act) s = absurd s
-due_is_ok (refused_act act) s = absurd s
-due_is_ok (no_event word last study past) s = absurd s
 due_is_ok (accepted due) s = refl
+due_is_ok _ s = absurd s
 
 -- another status says that there is no study
 nothing_due : (come : Verdict) (st : Status) → status_of come ≡ st → ¬ (st ≡ status.Ok) → ¬ IsDue come
@@ -59,8 +48,6 @@ IsEarly st = (st ≡ status.Usage) ⊎ IsSought st
 fulfilled : (come : Verdict) (bytes : List ℕ) (events more most old new writes steps : ℕ) (taken : Option (List ℕ)) (st : Status)
     → IsEarly st → Cause come st → (st ≡ status.ReadFault → Rose old new)
     → Fulfilled come bytes events more most (record { reads = old; writes = writes; taken = taken; steps = steps }) (record { reads = new; writes = writes; taken = taken; steps = steps }) st
-fulfilled come bytes events more most old new writes steps taken status.Ok (inl early) cause fault = cc
-fulfilled come bytes events more most old new writes steps taken status.Ok (inr early) cause fault = absurd early
 fulfilled come bytes events more most old new writes steps taken status.Usage early cause fault =
     refusal come bytes events more most old new writes steps taken status.Usage cause (λ e. cc) cause refl
 fulfilled come bytes events more most old new writes steps taken status.NoStudy early cause fault =
@@ -78,24 +65,6 @@ fulfilled come bytes events more most old new writes steps taken status.ReadFaul
   prefix = nothing_taken taken bytes;
   complete = λ s r w. absurd (r (fault refl));
 }
-fulfilled come bytes events more most old new writes steps taken status.WriteFault (inl early) cause fault = cc
-fulfilled come bytes events more most old new writes steps taken status.WriteFault (inr early) cause fault = absurd early
-fulfilled come bytes events more most old new writes steps taken status.NoBranch (inl early) cause fault = cc
-fulfilled come bytes events more most old new writes steps taken status.NoBranch (inr early) cause fault = absurd early
-fulfilled come bytes events more most old new writes steps taken status.NoStock (inl early) cause fault = cc
-fulfilled come bytes events more most old new writes steps taken status.NoStock (inr early) cause fault = absurd early
-fulfilled come bytes events more most old new writes steps taken (status.BadOrders number) (inl early) cause fault = cc
-fulfilled come bytes events more most old new writes steps taken (status.BadBundle reason at) (inl early) cause fault = cc
-fulfilled come bytes events more most old new writes steps taken (status.AuditFailed branch reference) (inl early) cause fault = cc
-fulfilled come bytes events more most old new writes steps taken (status.BadScript act) (inl early) cause fault = cc
-fulfilled come bytes events more most old new writes steps taken (status.ActRefused act) (inl early) cause fault = cc
-fulfilled come bytes events more most old new writes steps taken (status.BadOrders number) (inr early) cause fault = absurd early
-fulfilled come bytes events more most old new writes steps taken (status.BadBundle reason at) (inr early) cause fault = absurd early
-fulfilled come bytes events more most old new writes steps taken (status.AuditFailed branch reference) (inr early) cause fault = absurd early
-fulfilled come bytes events more most old new writes steps taken (status.BadScript act) (inr early) cause fault = absurd early
-fulfilled come bytes events more most old new writes steps taken (status.ActRefused act) (inr early) cause fault = absurd early
-fulfilled come bytes events more most old new writes steps taken status.NoEvent (inl early) cause fault = cc
-fulfilled come bytes events more most old new writes steps taken status.NoEvent (inr early) cause fault = absurd early
 fulfilled come bytes events more most old new writes steps taken status.Memory early cause fault = record {
   output = λ e. cc;
   counter = (omega arith, omega arith, λ n. absurd (n refl));
@@ -105,9 +74,11 @@ fulfilled come bytes events more most old new writes steps taken status.Memory e
   prefix = nothing_taken taken bytes;
   complete = λ s r w. inr refl;
 }
+fulfilled come bytes events more most old new writes steps taken _ (inl early) cause fault = cc
+fulfilled come bytes events more most old new writes steps taken _ (inr early) cause fault = absurd early
 
 early_told : (files : Option Files) (words : List (List ℕ)) (probes : Probes) (name : List ℕ) (old new writes steps : ℕ) (taken : Option (List ℕ)) (st : Status)
-    → IsEarly st → IfSome files (λ library. Ends (verdict library words) (fetched library words) st name) → (st ≡ status.ReadFault → Rose old new)
+    → IsEarly st → IfSome files (λ library. Ends (asked_ahead library (asked_of words)) st name) → (st ≡ status.ReadFault → Rose old new)
     → IfSome files (λ library. Fulfilled (verdict library words) (output probes (verdict library words)) (distinct (verdict library words)) (allowance (verdict library words)) (ceiling (verdict library words)) (record { reads = old; writes = writes; taken = taken; steps = steps }) (record { reads = new; writes = writes; taken = taken; steps = steps }) st)
 early_told None words probes name old new writes steps taken st early ends fault = tt
 early_told (Some library) words probes name old new writes steps taken st early ends fault =
@@ -119,7 +90,7 @@ early_write st (inr e) w = subst IsSought w e
 
 -- the search ended without a study
 pub ended_early : (files : Option Files) (words : List (List ℕ)) (probes : Probes) (name : List ℕ) (old new writes steps : ℕ) (taken : Option (List ℕ)) (st : Status)
-    → IsEarly st → IfSome files (λ library. Ends (verdict library words) (fetched library words) st name)
+    → IsEarly st → IfSome files (λ library. Ends (asked_ahead library (asked_of words)) st name)
     → (st ≡ status.Usage → asked_of words ≡ None) → (asked_of words ≡ None → (st ≡ status.Usage) ⊎ (st ≡ status.Memory))
     → (¬ (st ≡ status.ReadFault) → new ≡ old) → (IsLarge (asked_of words) → new ≡ old) → (st ≡ status.ReadFault → Rose old new) → old ≤ new
     → Answered files words probes (record { reads = old; writes = writes; taken = taken; steps = steps }) (record { reads = new; writes = writes; taken = taken; steps = steps }) st
@@ -182,7 +153,7 @@ finished_named (Some library) words probes arguments come before after st name i
     subst (λ (v : Verdict). Names v (fetched library words) st name) (sym is) (f.named (fetched library words))
 
 pub ended_named : (files : Option Files) (words : List (List ℕ)) (st : Status) (name : List ℕ)
-    → IfSome files (λ library. Ends (verdict library words) (fetched library words) st name)
+    → IfSome files (λ library. Ends (asked_ahead library (asked_of words)) st name)
     → IfSome files (λ library. Names (verdict library words) (fetched library words) st name)
 ended_named None words st name ends = tt
 ended_named (Some library) words st name ends = ends.named
@@ -190,21 +161,10 @@ ended_named (Some library) words st name ends = ends.named
 turned_counter : (events more most old new : ℕ) (before after : Option (List ℕ)) (st : Status) → ¬ (st ≡ status.Ok) → (IsRefusal st → after ≡ before)
     → Counts events more most old new before after st → Counts events more most old new before after status.Memory
 turned_counter events more most old new before after status.Ok other still h = absurd (other refl)
-turned_counter events more most old new before after status.Usage other still h = (omega (arith, h), omega (arith, h), λ n. absurd (n (still tt)))
-turned_counter events more most old new before after status.NoStudy other still h = (omega (arith, h), omega (arith, h), λ n. absurd (n (still tt)))
-turned_counter events more most old new before after status.TooLong other still h = (omega (arith, h), omega (arith, h), λ n. absurd (n (still tt)))
-turned_counter events more most old new before after (status.Refused rule place) other still h = (omega (arith, h), omega (arith, h), λ n. absurd (n (still tt)))
-turned_counter events more most old new before after status.ReadFault other still h = (omega (arith, h), omega (arith, h), λ n. absurd (n (still tt)))
 turned_counter events more most old new before after status.WriteFault other still h = (omega (arith, h.0), h.1, λ n. h.0)
-turned_counter events more most old new before after status.NoBranch other still h = (omega (arith, h), omega (arith, h), λ n. absurd (n (still tt)))
-turned_counter events more most old new before after status.NoStock other still h = (omega (arith, h), omega (arith, h), λ n. absurd (n (still tt)))
-turned_counter events more most old new before after (status.BadOrders number) other still h = (omega (arith, h), omega (arith, h), λ n. absurd (n (still tt)))
-turned_counter events more most old new before after (status.BadBundle reason at) other still h = (omega (arith, h), omega (arith, h), λ n. absurd (n (still tt)))
-turned_counter events more most old new before after (status.AuditFailed branch reference) other still h = (omega (arith, h), omega (arith, h), λ n. absurd (n (still tt)))
-turned_counter events more most old new before after (status.BadScript act) other still h = (omega (arith, h), omega (arith, h), λ n. absurd (n (still tt)))
-turned_counter events more most old new before after (status.ActRefused act) other still h = (omega (arith, h), omega (arith, h), λ n. absurd (n (still tt)))
 turned_counter events more most old new before after status.NoEvent other still h = (omega (arith, h.0), h.1, λ n. h.0)
 turned_counter events more most old new before after status.Memory other still h = h
+turned_counter events more most old new before after _ other still h = (omega (arith, h), omega (arith, h), λ n. absurd (n (still tt)))
 
 turned_told : (files : Option Files) (words : List (List ℕ)) (probes : Probes) (before after : Seen) (st : Status) → ¬ (st ≡ status.Ok) → (IsRefusal st → after.taken ≡ before.taken)
     → IfSome files (λ library. Fulfilled (verdict library words) (output probes (verdict library words)) (distinct (verdict library words)) (allowance (verdict library words)) (ceiling (verdict library words)) before after st)

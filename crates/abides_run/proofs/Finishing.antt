@@ -60,40 +60,19 @@ wanting-finishes come probes arguments reads writes old new taken st name is lea
 
 still-counts : (events more most steps : ℕ) (taken : Option (List ℕ)) (st : Status) → IsStill st → Counts events more most steps steps taken taken st
 still-counts events more most steps taken status.Ok still = absurd still
-still-counts events more most steps taken status.Usage still = refl
-still-counts events more most steps taken status.NoStudy still = refl
-still-counts events more most steps taken status.TooLong still = refl
-still-counts events more most steps taken (status.Refused rule place) still = refl
-still-counts events more most steps taken status.ReadFault still = refl
 still-counts events more most steps taken status.WriteFault still = absurd still
-still-counts events more most steps taken status.NoBranch still = refl
-still-counts events more most steps taken status.NoStock still = refl
-still-counts events more most steps taken (status.BadOrders number) still = refl
-still-counts events more most steps taken (status.BadBundle reason at) still = refl
-still-counts events more most steps taken (status.AuditFailed branch reference) still = refl
-still-counts events more most steps taken (status.BadScript act) still = refl
-still-counts events more most steps taken (status.ActRefused act) still = refl
 still-counts events more most steps taken status.NoEvent still = absurd still
 still-counts events more most steps taken status.Memory still = absurd still
+still-counts events more most steps taken _ still = refl
 
 -- a status that words and files give before the first step, once a study was found, is its own cause
 still-cause : (come : Verdict) (st : Status) → IsStill st → IsFinal st → status_of come ≡ st → Cause come st
 still-cause come status.Ok still final is = absurd still
-still-cause come status.Usage still final is = is
-still-cause come status.NoStudy still final is = is
-still-cause come status.TooLong still final is = is
-still-cause come (status.Refused rule place) still final is = is
 still-cause come status.ReadFault still final is = absurd final
 still-cause come status.WriteFault still final is = absurd still
-still-cause come status.NoBranch still final is = is
-still-cause come status.NoStock still final is = is
-still-cause come (status.BadOrders number) still final is = is
-still-cause come (status.BadBundle reason at) still final is = is
-still-cause come (status.AuditFailed branch reference) still final is = is
-still-cause come (status.BadScript act) still final is = is
-still-cause come (status.ActRefused act) still final is = is
 still-cause come status.NoEvent still final is = absurd still
 still-cause come status.Memory still final is = absurd still
+still-cause come _ still final is = is
 
 still-other : (st other : Status) → IsStill st → ¬ IsStill other → ¬ (st ≡ other)
 still-other st other still moving is = moving (subst IsStill is still)

@@ -12,7 +12,8 @@ use Rattle.command_words.specs.declared.asked.Request.{Request}
 use Rattle.command_words.specs.declared.asked.Request.TheVariants.{Bundle}
 use Rattle.abides_run.specs.Words.{asked_of}
 use Rattle.abides_run.specs.Output.{Probes, audited, study_bundle}
-use Rattle.abides_run.specs.Verdict.{Files, Verdict, accepted, most_bundle_bytes, verdict, verdict_for, verdict_on_bundle, verdict_on_failing, verdict_on_read}
+use Rattle.abides_run.specs.Verdict.{Files, Verdict, accepted, most_bundle_bytes, verdict_on_failing, verdict_on_read}
+use Rattle.abides_run.specs.Ahead.{asked_ahead, bundle_ahead, verdict}
 use Rattle.abides_run.specs.Statuses.{Cause, status_of}
 use Rattle.abides_run.specs.Headline.{Answered, Honest, IsHonest, Passes, Seen}
 use Rattle.abides_run.specs.declared.status.Status.{Status}
@@ -41,7 +42,7 @@ audited_comes : (library : Files) (words : List (List ℕ)) (name bytes : List �
     → content (held library name) most_bundle_bytes ≡ whole bytes → reading_of bytes ≡ read b → audit_of b ≡ None
     → verdict library words ≡ accepted (audited b)
 audited_comes library words name bytes b asks has is none =
-    ap (λ (o : Option Request). verdict_for library o) asks ∙ ap (λ (c : Content). verdict_on_bundle name c) has
+    ap (λ (o : Option Request). (asked_ahead library o).verdict) asks ∙ ap (λ (c : Content). (bundle_ahead name c).verdict) has
     ∙ ap verdict_on_read is ∙ ap (λ (f : Option Failing). verdict_on_failing b f) none
 
 honest_read : HonestPass → (bytes : List ℕ) → (h : IsHonest bytes) → (b : BundleTold) × (reading_of bytes ≡ read b) × (audit_of b ≡ None)

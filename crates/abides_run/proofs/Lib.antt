@@ -1,12 +1,13 @@
 pub mod Aiming
 pub mod Among
+pub mod Asking
 pub mod Answered
 pub mod Bundles
 pub mod Carrying
 pub mod Come
 pub mod Auditing
 pub mod Crossing
-pub mod Fetching
+pub mod Early
 pub mod Finishing
 pub mod Holding
 pub mod Honesty
@@ -14,5 +15,6 @@ pub mod Keeping
 pub mod Noting
 pub mod OneNumber
 pub mod Performing
+pub mod Searching
 pub mod Speaking
 pub mod Strides

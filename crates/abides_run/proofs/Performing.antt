@@ -20,22 +20,9 @@ use Rattle.abides_run.proofs.Answered.{nothing_taken}
 -- enough steps were counted before anything was sent, and no more than may be
 unsent_counts : (events more most old new : ℕ) (took_before took : Option (List ℕ)) (st : Status) → IsUnsent st → old + events ≤ new → new ≤ old + most
     → Counts events more most old new took_before took st
-unsent_counts events more most old new took_before took status.Ok u least within = absurd u
-unsent_counts events more most old new took_before took status.Usage u least within = absurd u
-unsent_counts events more most old new took_before took status.NoStudy u least within = absurd u
-unsent_counts events more most old new took_before took status.TooLong u least within = absurd u
-unsent_counts events more most old new took_before took (status.Refused rule place) u least within = absurd u
-unsent_counts events more most old new took_before took status.ReadFault u least within = absurd u
 unsent_counts events more most old new took_before took status.WriteFault u least within = (least, within)
-unsent_counts events more most old new took_before took status.NoBranch u least within = absurd u
-unsent_counts events more most old new took_before took status.NoStock u least within = absurd u
-unsent_counts events more most old new took_before took (status.BadOrders number) u least within = absurd u
-unsent_counts events more most old new took_before took (status.BadBundle reason at) u least within = absurd u
-unsent_counts events more most old new took_before took (status.AuditFailed branch reference) u least within = absurd u
-unsent_counts events more most old new took_before took (status.BadScript act) u least within = absurd u
-unsent_counts events more most old new took_before took (status.ActRefused act) u least within = absurd u
-unsent_counts events more most old new took_before took status.NoEvent u least within = absurd u
 unsent_counts events more most old new took_before took status.Memory u least within = (omega (arith, least), within, λ n. least)
+unsent_counts events more most old new took_before took _ u least within = absurd u
 
 unsent_other : (st : Status) → IsUnsent st → ¬ (st ≡ status.Ok)
 unsent_other st u e = subst IsUnsent e u
@@ -105,44 +92,18 @@ wanting bytes events more most reads writes old new taken least within = record 
 
 -- What is done with an accepted study ends with 0, 7 or 10.
 unsent_cause : (come : Verdict) (st : Status) → IsDue come → IsUnsent st → Cause come st
-unsent_cause come status.Ok s u = absurd u
-unsent_cause come status.Usage s u = absurd u
-unsent_cause come status.NoStudy s u = absurd u
-unsent_cause come status.TooLong s u = absurd u
-unsent_cause come (status.Refused rule place) s u = absurd u
-unsent_cause come status.ReadFault s u = absurd u
 unsent_cause come status.WriteFault s u = s
-unsent_cause come status.NoBranch s u = absurd u
-unsent_cause come status.NoStock s u = absurd u
-unsent_cause come (status.BadOrders number) s u = absurd u
-unsent_cause come (status.BadBundle reason at) s u = absurd u
-unsent_cause come (status.AuditFailed branch reference) s u = absurd u
-unsent_cause come (status.BadScript act) s u = absurd u
-unsent_cause come (status.ActRefused act) s u = absurd u
-unsent_cause come status.NoEvent s u = absurd u
 unsent_cause come status.Memory s u = tt
+unsent_cause come _ s u = absurd u
 
 performed_cause : (come : Verdict) (st : Status) → IsDue come → (st ≡ status.Ok) ⊎ IsUnsent st → Cause come st
 performed_cause come st s (inl ok) = subst (λ (x : Status). Cause come x) (sym ok) s
 performed_cause come st s (inr u) = unsent_cause come st s u
 
 unsent_wanting : (st : Status) (old new : ℕ) → IsUnsent st → (st ≡ status.WriteFault → Rose old new) → ¬ (Rose old new) → st ≡ status.Memory
-unsent_wanting status.Ok old new u fault r = absurd u
-unsent_wanting status.Usage old new u fault r = absurd u
-unsent_wanting status.NoStudy old new u fault r = absurd u
-unsent_wanting status.TooLong old new u fault r = absurd u
-unsent_wanting (status.Refused rule place) old new u fault r = absurd u
-unsent_wanting status.ReadFault old new u fault r = absurd u
 unsent_wanting status.WriteFault old new u fault r = absurd (r (fault refl))
-unsent_wanting status.NoBranch old new u fault r = absurd u
-unsent_wanting status.NoStock old new u fault r = absurd u
-unsent_wanting (status.BadOrders number) old new u fault r = absurd u
-unsent_wanting (status.BadBundle reason at) old new u fault r = absurd u
-unsent_wanting (status.AuditFailed branch reference) old new u fault r = absurd u
-unsent_wanting (status.BadScript act) old new u fault r = absurd u
-unsent_wanting (status.ActRefused act) old new u fault r = absurd u
-unsent_wanting status.NoEvent old new u fault r = absurd u
 unsent_wanting status.Memory old new u fault r = refl
+unsent_wanting _ old new u fault r = absurd u
 
 performed_complete : (st : Status) (old new : ℕ) → (st ≡ status.Ok) ⊎ IsUnsent st → (st ≡ status.WriteFault → Rose old new) → ¬ (Rose old new)
     → (st ≡ status.Ok) ⊎ (st ≡ status.Memory)
@@ -172,22 +133,9 @@ record IsDone (st : Status) : Type 0 where
   argument : (arguments : List (List ℕ)) (name : List ℕ) → NamesOne arguments st name
 
 unsent_done : (st : Status) → IsUnsent st → IsDone st
-unsent_done status.Ok u = absurd u
-unsent_done status.Usage u = absurd u
-unsent_done status.NoStudy u = absurd u
-unsent_done status.TooLong u = absurd u
-unsent_done (status.Refused rule place) u = absurd u
-unsent_done status.ReadFault u = absurd u
 unsent_done status.WriteFault u = record { final = tt; going = λ r. r; moving = λ r. r; names = λ come fetched name. tt; argument = λ arguments name. tt }
-unsent_done status.NoBranch u = absurd u
-unsent_done status.NoStock u = absurd u
-unsent_done (status.BadOrders number) u = absurd u
-unsent_done (status.BadBundle reason at) u = absurd u
-unsent_done (status.AuditFailed branch reference) u = absurd u
-unsent_done (status.BadScript act) u = absurd u
-unsent_done (status.ActRefused act) u = absurd u
-unsent_done status.NoEvent u = absurd u
 unsent_done status.Memory u = record { final = tt; going = λ r. r; moving = λ r. r; names = λ come fetched name. tt; argument = λ arguments name. tt }
+unsent_done _ u = absurd u
 
 performed_done : (st : Status) → (st ≡ status.Ok) ⊎ IsUnsent st → IsDone st
 performed_done st (inl ok) =

@@ -12,7 +12,7 @@ use Rattle.study_market.specs.Opening.{stride_of}
 use Rattle.study_market.proofs.Held.{are-held, both-none}
 use Rattle.study_market.proofs.Openings.{limits}
 use Rattle.study_rules.specs.Accepted.{StudyTold, first_refusal, rows_in, told_of, study_of}
-use Rattle.abides_run.specs.Performed.{IsStride}
+use Rattle.abides_run.specs.Ranges.{IsStride}
 
 some-rows : (r : Result (List (List SeriesRow)) ℕ) (t : Members)
     → ◌≡◌ {A = Option Refusal} (elim r [ Err number ↦ Some (record { rule = 19; place = number }) | Ok rows ↦ late_refusal t rows ]) None

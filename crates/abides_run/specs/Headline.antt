@@ -8,9 +8,10 @@ use Rattle.outside.specs.Taken.{appended, TookPrefix}
 use Rattle.study_rules.specs.Accepted.{StudyTold, study_of}
 use Rattle.command_words.specs.declared.asked.Request.TheVariants.{Bundle}
 use Rattle.abides_run.specs.Words.{asked_of, IsLarge}
-use Rattle.abides_run.specs.Verdict.{Verdict, Files, most_bundle_bytes, verdict, IsDue, output, distinct, allowance, ceiling, RoseBy}
+use Rattle.abides_run.specs.Ahead.{fetched, verdict}
+use Rattle.abides_run.specs.Verdict.{Verdict, Files, most_bundle_bytes, IsDue, output, distinct, allowance, ceiling, RoseBy}
 use Rattle.abides_run.specs.Output.{Probes, study_bundle}
-use Rattle.abides_run.specs.Fetched.{arguments_in, fetched}
+use Rattle.abides_run.specs.Fetched.{arguments_in}
 use Rattle.abides_run.specs.Statuses.{Cause, Counts, IsRefusal, IsStill, Names, SpeaksFor, NamesOne, status_of}
 use Rattle.abides_run.specs.Notes.{note}
 use Rattle.abides_run.specs.declared.status.Status.{Status}

@@ -9,28 +9,11 @@ use Rattle.abides_run.specs.Headline.{Fulfilled, Seen}
 use Rattle.abides_run.specs.declared.status.Status.{Status}
 use Rattle.abides_run.specs.declared.status.Status.TheVariants.{Ok, Usage, NoStudy, TooLong, Refused, ReadFault, WriteFault, NoBranch, NoStock, BadOrders, BadBundle, AuditFailed, BadScript, ActRefused, NoEvent, Memory}
 
--- a study's stride: a copy is kept each so many events
-abbrev pub IsStride : ℕ → Type 0
-IsStride stride = (100 ≤ stride) × (stride ≤ 1000000)
-
 -- a status with which bytes are not all sent
 abbrev pub IsUnsent : Status → Type 0
-IsUnsent Ok = ⊥
-IsUnsent Usage = ⊥
-IsUnsent NoStudy = ⊥
-IsUnsent TooLong = ⊥
-IsUnsent (Refused rule place) = ⊥
-IsUnsent ReadFault = ⊥
 IsUnsent WriteFault = Unit {0}
-IsUnsent NoBranch = ⊥
-IsUnsent NoStock = ⊥
-IsUnsent (BadOrders number) = ⊥
-IsUnsent (BadBundle reason at) = ⊥
-IsUnsent (AuditFailed branch reference) = ⊥
-IsUnsent (BadScript act) = ⊥
-IsUnsent (ActRefused act) = ⊥
-IsUnsent NoEvent = ⊥
 IsUnsent Memory = Unit {0}
+IsUnsent _ = ⊥
 
 -- These bytes were made and sent to a sink; or a first part of them, and why no more. The counts are those of the sink's
 -- faults, before and after, and then the bytes that it has taken. The count rises exactly where a write failed.
@@ -56,22 +39,12 @@ pub record Performed (bytes : List ℕ) (events more most : ℕ) (before after :
 
 -- a status that comes once a study was found
 abbrev pub IsFinal : Status → Type 0
-IsFinal Ok = Unit {0}
 IsFinal Usage = ⊥
 IsFinal NoStudy = ⊥
 IsFinal TooLong = ⊥
 IsFinal (Refused rule place) = ⊥
 IsFinal ReadFault = ⊥
-IsFinal WriteFault = Unit {0}
-IsFinal NoBranch = Unit {0}
-IsFinal NoStock = Unit {0}
-IsFinal (BadOrders number) = Unit {0}
-IsFinal (BadBundle reason at) = Unit {0}
-IsFinal (AuditFailed branch reference) = Unit {0}
-IsFinal (BadScript act) = Unit {0}
-IsFinal (ActRefused act) = Unit {0}
-IsFinal NoEvent = Unit {0}
-IsFinal Memory = Unit {0}
+IsFinal _ = Unit {0}
 
 -- What was asked for with these arguments was done with a study that was found, which comes to this verdict; or why not. The
 -- name is that of which the status speaks.

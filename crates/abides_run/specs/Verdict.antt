@@ -1,10 +1,9 @@
--- What words and files come to, before anything is simulated. The order of refusals is the order of this computation.
+-- What words and files may come to, before anything is simulated: what a study that was found, or a bundle, comes to with its task.
+-- The order of refusals is the order of this computation.
 use Rattle.std.specs.Prelude.{ℕ, ◌+◌, ◌*◌, List, [], ◌∷◌, Option, Some, None, Result, Ok, Err, codes, length, unwrap_or}
 use Rattle.toml.specs.Data.{Members}
-use Rattle.outside.specs.Files.{Content, absent, too_long, whole, held, content}
-use Rattle.study_file.specs.Tables.{table_of, text_at}
-use Rattle.study_market.specs.declared.early_refusal.Refusal.{Refusal}
-use Rattle.study_rules.specs.Accepted.{StudyTold, study_of}
+use Rattle.study_file.specs.Tables.{text_at}
+use Rattle.study_rules.specs.Accepted.{StudyTold}
 use Rattle.command_words.specs.declared.mark.Mark.{Mark}
 use Rattle.rewind_desk.specs.declared.aimed.Aimed.{Aimed}
 use Rattle.rewind_desk.specs.declared.aimed.Aimed.TheVariants.{At, NoBranch}
@@ -16,9 +15,8 @@ use Rattle.reopen_cross.specs.declared.cross.Interest.{Interest}
 use Rattle.reopening_desk.specs.Orders.{orders_of}
 use Rattle.reopening_desk.specs.declared.stock.StockNamed.{StockNamed}
 use Rattle.reopening_desk.specs.Stocks.{stock_of}
-use Rattle.study_file.specs.LargeStudy.{large_study}
 use Rattle.bundle_reader.specs.Told.{BundleTold}
-use Rattle.bundle_reader.specs.Reading.{Read, read, cut, bad_frame, bad_order, reading_of}
+use Rattle.bundle_reader.specs.Reading.{Read, read, cut, bad_frame, bad_order}
 use Rattle.audit_desk.specs.declared.failing.Failing.{Failing}
 use Rattle.audit_desk.specs.Audited.{audit_of}
 use Rattle.session_desk.specs.declared.act.Act.{Act}
@@ -28,14 +26,11 @@ use Rattle.session_desk.specs.Session.{first_session}
 use Rattle.session_desk.specs.declared.end.PastAct.{PastAct}
 use Rattle.session_desk.specs.Refused.{act_refused}
 use Rattle.session_desk.specs.Past.{past_act}
-use Rattle.command_words.specs.declared.asked.Request.{Request}
-use Rattle.command_words.specs.declared.asked.Request.TheVariants.{File, Large, Bundle}
 use Rattle.command_words.specs.declared.asked.Task.{Task}
 use Rattle.command_words.specs.declared.asked.Task.TheVariants.{Run, Check, Table, Rewind, Cross, Session}
-use Rattle.abides_run.specs.Words.{asked_of, further_of}
 use Rattle.abides_run.specs.Rewinds.{lasts_of, argument_at}
 use Rattle.abides_run.specs.Sessions.{act_word, bad_act}
-use Rattle.abides_run.specs.Output.{Probes, Due, bundled, counted, compared, described, rewound, crossed, audited, carried_out, written, simulated, allowed, most_for, study_events, RoseFor}
+use Rattle.abides_run.specs.Output.{Probes, Due, bundled, counted, compared, rewound, crossed, audited, carried_out, written, simulated, allowed, most_for, study_events, RoseFor}
 
 -- That bytes are no bundle is told with the number of the reason and its place, that a script or an act is refused with the act's
 -- number. That an event isn't there is told with the last
@@ -137,61 +132,9 @@ verdict_on_found (Rewind marks places) further study = verdict_on_aimed marks pl
 verdict_on_found (Cross crossing places) further study = verdict_on_crossing crossing places (unwrap_or further []) study
 verdict_on_found (Session script places) further study = verdict_on_session places (unwrap_or further []) study
 
--- the further file was asked for under its name
-abbrev pub verdict_on_file : Task → StudyTold → List ℕ → Content → Verdict
-verdict_on_file task study name absent = no_file name
-verdict_on_file task study name too_long = file_too_long name
-verdict_on_file task study name (whole bytes) = verdict_on_found task (Some bytes) study
-
--- the study breaks no rule, and the task may name a further file
-abbrev pub verdict_on_further : Files → Task → StudyTold → Option (List ℕ) → Verdict
-verdict_on_further files task study None = verdict_on_found task None study
-verdict_on_further files task study (Some name) = verdict_on_file task study name (content (held files name) most_bytes)
-
--- the first broken rule of all, or a study
-abbrev pub judged : Files → Task → Result StudyTold Refusal → Verdict
-judged files task (Err refusal) = refused refusal.rule refusal.place
-judged files task (Ok study) = verdict_on_further files task study (further_of task)
-
--- the series file was asked for under its name
-abbrev pub verdict_on_series : Files → Task → Members → List ℕ → Content → Verdict
-verdict_on_series files task table name absent = no_file name
-verdict_on_series files task table name too_long = file_too_long name
-verdict_on_series files task table name (whole bytes) = judged files task (study_of table (Some bytes))
-
--- the table is there, and may name a series file
-abbrev pub verdict_on_table : Files → Task → Members → Option (List ℕ) → Verdict
-verdict_on_table files task table None = judged files task (study_of table None)
-verdict_on_table files task table (Some name) = verdict_on_series files task table name (content (held files name) most_bytes)
-
--- the study's bytes may be the text of a table: without one they break rule 0
-abbrev pub verdict_on_bytes : Files → Task → Option Members → Verdict
-verdict_on_bytes files task None = refused 0 0
-verdict_on_bytes files task (Some table) = verdict_on_table files task table (series_of table)
-
--- the study was asked for under its name
-abbrev pub verdict_on_study : Files → Task → List ℕ → Content → Verdict
-verdict_on_study files task study absent = no_file study
-verdict_on_study files task study too_long = file_too_long study
-verdict_on_study files task study (whole bytes) = verdict_on_bytes files task (table_of bytes)
-
--- the first broken rule of a large study's text, or the lines that tell of its run
-abbrev pub judged_large : ℕ → Result StudyTold Refusal → Verdict
-judged_large bytes (Err refusal) = refused refusal.rule refusal.place
-judged_large bytes (Ok study) = accepted (described bytes study)
-
--- a text that is in no file, has so many bytes and has no series file is judged by the same rules
-abbrev pub verdict_on_text : ℕ → Option Members → Verdict
-verdict_on_text bytes None = refused 0 0
-verdict_on_text bytes (Some table) = judged_large bytes (study_of table None)
-
 -- each branch of the large study has at most so many events
 abbrev pub large_limit : ℕ
 large_limit = 20000
-
--- the text of the large study of a number is judged, and nothing is fetched
-abbrev pub verdict_on_large : List ℕ → Verdict
-verdict_on_large text = verdict_on_text (length text) (table_of text)
 
 -- a branch of a bundle may be the first whose closing isn't what its feed tells
 abbrev pub verdict_on_failing : BundleTold → Option Failing → Verdict
@@ -205,129 +148,40 @@ verdict_on_read (cut left) = bad_bundle 1 left
 verdict_on_read (bad_frame at) = bad_bundle 2 at
 verdict_on_read (bad_order at) = bad_bundle 3 at
 
--- the bundle was asked for under its name
-abbrev pub verdict_on_bundle : List ℕ → Content → Verdict
-verdict_on_bundle name absent = no_file name
-verdict_on_bundle name too_long = file_too_long name
-verdict_on_bundle name (whole bytes) = verdict_on_read (reading_of bytes)
-
-abbrev pub verdict_for : Files → Option Request → Verdict
-verdict_for files None = usage
-verdict_for files (Some (File task study)) = verdict_on_study files task study (content (held files study) most_bytes)
-verdict_for files (Some (Large number)) = verdict_on_large (large_study number large_limit)
-verdict_for files (Some (Bundle name)) = verdict_on_bundle name (content (held files name) most_bundle_bytes)
-
-abbrev pub verdict : Files → List (List ℕ) → Verdict
-verdict files words = verdict_for files (asked_of words)
-
 -- they come to what is due
 abbrev pub IsDue : Verdict → Type 0
-IsDue usage = ⊥
-IsDue (no_file name) = ⊥
-IsDue (file_too_long name) = ⊥
-IsDue (refused rule place) = ⊥
-IsDue (no_branch word) = ⊥
-IsDue (no_stock word) = ⊥
-IsDue (bad_orders number) = ⊥
-IsDue (bad_bundle reason at) = ⊥
-IsDue (audit_failed branch reference) = ⊥
-IsDue (bad_script act) = ⊥
-IsDue (refused_act act) = ⊥
-IsDue (no_event word last study past) = ⊥
 IsDue (accepted due) = Unit {0}
+IsDue _ = ⊥
 
 -- the words ask for a file or a large study
 abbrev pub IsAsked : Verdict → Type 0
 IsAsked usage = ⊥
-IsAsked (no_file name) = Unit {0}
-IsAsked (file_too_long name) = Unit {0}
-IsAsked (refused rule place) = Unit {0}
-IsAsked (no_branch word) = Unit {0}
-IsAsked (no_stock word) = Unit {0}
-IsAsked (bad_orders number) = Unit {0}
-IsAsked (bad_bundle reason at) = Unit {0}
-IsAsked (audit_failed branch reference) = Unit {0}
-IsAsked (bad_script act) = Unit {0}
-IsAsked (refused_act act) = Unit {0}
-IsAsked (no_event word last study past) = Unit {0}
-IsAsked (accepted due) = Unit {0}
+IsAsked _ = Unit {0}
 
 -- what is to be written, which is nothing where nothing is due
 abbrev pub output : Probes → Verdict → List ℕ
-output probes usage = []
-output probes (no_file name) = []
-output probes (file_too_long name) = []
-output probes (refused rule place) = []
-output probes (no_branch word) = []
-output probes (no_stock word) = []
-output probes (bad_orders number) = []
-output probes (bad_bundle reason at) = []
-output probes (audit_failed branch reference) = []
-output probes (bad_script act) = []
-output probes (refused_act act) = []
-output probes (no_event word last study past) = []
 output probes (accepted due) = written probes due
+output probes _ = []
 
 -- How many steps are to be counted: that a branch lacks an event is seen once its study was simulated.
 abbrev pub distinct : Verdict → ℕ
-distinct usage = 0
-distinct (no_file name) = 0
-distinct (file_too_long name) = 0
-distinct (refused rule place) = 0
-distinct (no_branch word) = 0
-distinct (no_stock word) = 0
-distinct (bad_orders number) = 0
-distinct (bad_bundle reason at) = 0
-distinct (audit_failed branch reference) = 0
-distinct (bad_script act) = 0
-distinct (refused_act act) = 0
 distinct (no_event word last study past) = study_events study.course
 distinct (accepted due) = simulated due
+distinct _ = 0
 
 -- what else is said of the counter where all was written
 abbrev pub RoseBy : Verdict → ℕ → ℕ → Type 0
-RoseBy usage old new = Unit {0}
-RoseBy (no_file name) old new = Unit {0}
-RoseBy (file_too_long name) old new = Unit {0}
-RoseBy (refused rule place) old new = Unit {0}
-RoseBy (no_branch word) old new = Unit {0}
-RoseBy (no_stock word) old new = Unit {0}
-RoseBy (bad_orders number) old new = Unit {0}
-RoseBy (bad_bundle reason at) old new = Unit {0}
-RoseBy (audit_failed branch reference) old new = Unit {0}
-RoseBy (bad_script act) old new = Unit {0}
-RoseBy (refused_act act) old new = Unit {0}
-RoseBy (no_event word last study past) old new = Unit {0}
 RoseBy (accepted due) old new = RoseFor due old new
+RoseBy _ old new = Unit {0}
 
 -- how many more may be
 abbrev pub allowance : Verdict → ℕ
-allowance usage = 0
-allowance (no_file name) = 0
-allowance (file_too_long name) = 0
-allowance (refused rule place) = 0
-allowance (no_branch word) = 0
-allowance (no_stock word) = 0
-allowance (bad_orders number) = 0
-allowance (bad_bundle reason at) = 0
-allowance (audit_failed branch reference) = 0
-allowance (bad_script act) = 0
-allowance (refused_act act) = 0
 allowance (no_event word last study past) = past
 allowance (accepted due) = allowed due
+allowance _ = 0
 
 -- how many are made at most where not all is written
 abbrev pub ceiling : Verdict → ℕ
-ceiling usage = 0
-ceiling (no_file name) = 0
-ceiling (file_too_long name) = 0
-ceiling (refused rule place) = 0
-ceiling (no_branch word) = 0
-ceiling (no_stock word) = 0
-ceiling (bad_orders number) = 0
-ceiling (bad_bundle reason at) = 0
-ceiling (audit_failed branch reference) = 0
-ceiling (bad_script act) = 0
-ceiling (refused_act act) = 0
 ceiling (no_event word last study past) = study_events study.course + past
 ceiling (accepted due) = most_for due
+ceiling _ = 0

@@ -9,12 +9,13 @@ ghost use Rattle.rewind_desk.specs.Targets.{past_of, target_of};
 ghost use Rattle.study_rules.specs.Accepted.{study_told};
 ghost use Rattle.abides_run.specs.Fetched.{IsAmong, arguments_of};
 ghost use Rattle.abides_run.specs.Output.{Probes};
-ghost use Rattle.abides_run.specs.Performed.{Finished, IsStride, Sent};
+ghost use Rattle.abides_run.specs.Performed.{Finished, Sent};
 ghost use Rattle.abides_run.specs.Rewinds.{IsThere, lasts_of, steps_from, target_state};
 ghost use Rattle.abides_run.specs.Verdict.{verdict_on_crossing, verdict_on_late};
 ghost use Rattle.command_words.specs.declared.asked.Task.TheVariants as task;
 
 use crate::ending::{Ending, named, nameless};
+use crate::found::Simulation;
 use crate::rewinds::{no_event, simulate_kept};
 use crate::send::{send, sent_status};
 use crate::status::Status;
@@ -32,7 +33,6 @@ use rewind_desk::{RewindError, Target, branch_named, first_past, rewind};
 use std::alloc::Global;
 use std::sync::{Arc, Wait};
 use std::thread::Threads;
-use study_rules::Study;
 
 // The bytes of a further file, of which there are none where the words name no file.
 pub fn further_text(further: &Option<Vec<u8>>) -> &[u8]
@@ -98,6 +98,19 @@ fn crossed_bytes<L: Ledger>(
     bytes
 }
 
+// A question for a stock's reopening: at which state, and with whose orders.
+#[derive(Drop)]
+struct Question<'a> {
+    // The state as it was asked for.
+    word: &'a str,
+    // The state.
+    target: Target,
+    // The stock.
+    stock: StockNamed,
+    // The orders that would join its book.
+    orders: &'a [Interest],
+}
+
 // Sends all that is told of a stock's reopening in a target's state.
 fn send_cross<O: Sink, L: Ledger>(
     alloc: Global,
@@ -114,7 +127,8 @@ fn send_cross<O: Sink, L: Ledger>(
     requires count { steps.old + steps_from shelf.now target < 2 ^ 64 }
     requires stock { stock.number < length course.now.value.opening.stocks }
     requires orders { AreFiled orders.now }
-    ensures sent { Sent (reopened (target_state course.now.value target) stock orders.now) (O.faults out.old) (O.faults out.new) (O.taken out.old) (O.taken out.new) result }
+    ensures sent { Sent (reopened (target_state course.now.value target) stock orders.now)
+        (O.faults out.old) (O.faults out.new) (O.taken out.old) (O.taken out.new) result }
     ensures least { steps.old ≤ steps.new }
     ensures most { steps.new ≤ steps.old + steps_from shelf.now target }
 {
@@ -129,48 +143,45 @@ fn send_cross<O: Sink, L: Ledger>(
 fn reach_and_cross<R: Threads + Wait + Sync, O: Sink, G: Gate + Sync, D: Ledger + Send>(
     rt: &R,
     alloc: Global,
-    study: &Study,
-    word: &str,
-    target: Target,
-    stock: StockNamed,
-    orders: &[Interest],
-    places: u32,
-    workers: u32,
+    simulation: &Simulation,
+    question: &Question<'_>,
     out: &mut O,
     gate: &G,
     steps: &mut Steps<D>,
 ) -> Ending
-    requires stride { IsStride study.now.stride }
-    requires branch { target.branch < length study.now.course.value.plan.branches }
-    requires event { target.event ≤ 9999999 }
-    requires stock { stock.number < length study.now.course.value.opening.stocks }
-    requires orders { AreFiled orders.now }
-    requires places { places ≤ 128 }
-    requires workers { (0 < workers) × (workers ≤ 64) }
+    requires branch { let course = simulation.now.study.course.value in
+        question.now.target.branch < length course.plan.branches }
+    requires event { question.now.target.event ≤ 9999999 }
+    requires stock { let course = simulation.now.study.course.value in
+        question.now.stock.number < length course.opening.stocks }
+    requires orders { AreFiled question.now.orders.now }
     requires steps { steps.old ≤ 2 ^ 63 }
-    ensures { (reads : ℕ) (probes : Probes) (arguments : List (List ℕ)) → IsAmong word.now arguments →
-        Finished (verdict_on_late word.now target stock orders.now places (study_told study.now) (past_of (lasts_of study.now.course.value) (target ∷ []))) probes
+    ensures { let asked = question.now in let study = study_told simulation.now.study in
+        (reads : ℕ) (probes : Probes) (arguments : List (List ℕ)) → IsAmong asked.word.now arguments → Finished
+        (verdict_on_late asked.word.now asked.target asked.stock asked.orders.now simulation.now.places
+        study (past_of (lasts_of study.course) (asked.target ∷ [])))
+        probes
         arguments
         (record { reads = reads; writes = O.faults out.old; taken = O.taken out.old; steps = steps.old })
         (record { reads = reads; writes = O.faults out.new; taken = O.taken out.new; steps = steps.new })
         result.status (string_bytes result.name) }
 {
-    let simulated = match simulate_kept(rt, alloc, study, places, workers, gate, steps) {
+    let simulated = match simulate_kept(rt, alloc, simulation, gate, steps) {
         Ok(simulated) => simulated,
         Err(Memory) => return nameless(alloc, Status::Memory),
     };
-    if let Some(past) = first_past(&simulated.lasts, &[target]) {
+    if let Some(past) = first_past(&simulated.lasts, &[question.target]) {
         drop(simulated);
-        return no_event(alloc, word, past.last);
+        return no_event(alloc, question.word, past.last);
     }
     let shelf = &simulated.shelf;
     let sent = send_cross(
         alloc,
-        &study.course,
+        &simulation.study.course,
         shelf,
-        target,
-        stock,
-        orders,
+        question.target,
+        question.stock,
+        question.orders,
         out,
         steps,
     );
@@ -184,21 +195,18 @@ fn reach_and_cross<R: Threads + Wait + Sync, O: Sink, G: Gate + Sync, D: Ledger 
 pub fn cross_study<R: Threads + Wait + Sync, O: Sink, G: Gate + Sync, D: Ledger + Send>(
     rt: &R,
     alloc: Global,
-    study: &Study,
+    simulation: &Simulation,
     crossing: &Crossing<'_>,
     text: &[u8],
-    places: u32,
-    workers: u32,
     out: &mut O,
     gate: &G,
     steps: &mut Steps<D>,
 ) -> Ending
-    requires stride { IsStride study.now.stride }
     requires mark { IsMark crossing.now.mark }
-    requires places { places ≤ 128 }
-    requires workers { (0 < workers) × (workers ≤ 64) }
     requires steps { steps.old ≤ 2 ^ 63 }
-    ensures { (reads : ℕ) (probes : Probes) → Finished (verdict_on_crossing crossing.now places text.now (study_told study.now)) probes
+    ensures { let places = simulation.now.places in (reads : ℕ) (probes : Probes) → Finished
+        (verdict_on_crossing crossing.now places text.now (study_told simulation.now.study))
+        probes
         (arguments_of (task.Cross crossing.now places))
         (record { reads = reads; writes = O.faults out.old; taken = O.taken out.old; steps = steps.old })
         (record { reads = reads; writes = O.faults out.new; taken = O.taken out.new; steps = steps.new })
@@ -206,6 +214,7 @@ pub fn cross_study<R: Threads + Wait + Sync, O: Sink, G: Gate + Sync, D: Ledger 
 {
     let word = crossing.mark.word.as_str();
     let symbol = crossing.symbol.as_str();
+    let study = &simulation.study;
     let Some(target) = target_of(study.course.plan(), &crossing.mark) else {
         return named(alloc, Status::NoBranch, word);
     };
@@ -220,9 +229,13 @@ pub fn cross_study<R: Threads + Wait + Sync, O: Sink, G: Gate + Sync, D: Ledger 
         }
         Err(OrdersError::Memory) => return nameless(alloc, Status::Memory),
     };
-    let ending = reach_and_cross(
-        rt, alloc, study, word, target, stock, &orders, places, workers, out, gate, steps,
-    );
+    let question = Question {
+        word,
+        target,
+        stock,
+        orders: &orders,
+    };
+    let ending = reach_and_cross(rt, alloc, simulation, &question, out, gate, steps);
     drop(orders);
     ending
 }

@@ -1,11 +1,11 @@
 //! What is done with a study or a bundle.
 
-ghost use Rattle.std.specs.Prelude.{◌≡◌, ◌+◌, ◌++◌, ◌∷◌, ◌<◌, ◌≤◌, ◌^◌, [], ℕ, IfOk, codes, map, option_map, string_bytes};
+ghost use Rattle.std.specs.Prelude.{◌≡◌, ◌+◌, ◌++◌, ◌∷◌, ◌≤◌, ◌^◌, [], ℕ, IfOk, codes, map, option_map, string_bytes};
 ghost use Rattle.std.specs.Fmt.{decimal};
 ghost use Rattle.abides_run.specs.Fetched.{arguments_of};
 ghost use Rattle.abides_run.specs.Output.{counts_line, study_bundle, study_events, study_lines, study_table};
-ghost use Rattle.abides_run.specs.Performed.{Finished, IsStride, Performed};
-ghost use Rattle.abides_run.specs.AllFound.{IsPaced, IsStaffed, IsTasked, arguments_on, verdict_on_all};
+ghost use Rattle.abides_run.specs.Performed.{Finished, Performed};
+ghost use Rattle.abides_run.specs.AllFound.{IsTasked, arguments_on, verdict_on_all};
 ghost use Rattle.abides_run.specs.Verdict.{verdict_on_found};
 ghost use Rattle.command_words.specs.Ranges.{IsTask};
 ghost use Rattle.study_rules.specs.Accepted.{study_told};
@@ -13,7 +13,7 @@ ghost use Rattle.study_rules.specs.Accepted.{study_told};
 use crate::audits::audit_bundle;
 use crate::crosses::{cross_study, further_text};
 use crate::ending::{Ending, nameless};
-use crate::found::{Found, FoundStudy};
+use crate::found::{Found, FoundStudy, Simulation};
 use crate::rewinds::rewind_study;
 use crate::send::{send, send_bundle, sent_status};
 use crate::sessions::session_study;
@@ -29,36 +29,30 @@ use std::alloc::{AllocError, Global};
 use std::sync::Wait;
 use std::thread::Threads;
 use study_report::study_table;
-use study_rules::Study;
 use trace_bundle::big_lines;
-
-// Nothing that is asked for here but a rewind, a cross and a session goes on from a state on the way.
-const NO_PLACES: u32 = 0;
 
 // Has workers simulate each segment of a study once, and then writes the bundle.
 fn run_study<R: Threads + Wait + Sync, O: Sink, G: Gate + Sync, D: Ledger + Send>(
     rt: &R,
     alloc: Global,
-    study: &Study,
-    workers: u32,
+    simulation: &Simulation,
     out: &mut O,
     gate: &G,
     steps: &mut Steps<D>,
 ) -> Status
-    requires stride { IsStride study.now.stride }
-    requires workers { (0 < workers) × (workers ≤ 64) }
     requires steps { steps.old ≤ 2 ^ 63 }
-    ensures { (reads : ℕ) → Performed (study_bundle study.now.course.value) (study_events study.now.course.value) 0 (study_events study.now.course.value)
+    ensures { let course = simulation.now.study.course.value in (reads : ℕ) → Performed
+        (study_bundle course) (study_events course) 0 (study_events course)
         (record { reads = reads; writes = O.faults out.old; taken = O.taken out.old; steps = steps.old })
         (record { reads = reads; writes = O.faults out.new; taken = O.taken out.new; steps = steps.new })
         result }
 {
-    let course = &study.course;
+    let course = &simulation.study.course;
     let setup = Setup {
-        stride: study.stride,
-        places: NO_PLACES,
+        stride: simulation.study.stride,
+        places: simulation.places,
         keep: Keep::Frames,
-        workers,
+        workers: simulation.workers,
     };
     match simulate(rt, alloc, course, setup, gate, steps) {
         Ok(worked) => {
@@ -74,28 +68,26 @@ fn run_study<R: Threads + Wait + Sync, O: Sink, G: Gate + Sync, D: Ledger + Send
 fn table_study<R: Threads + Wait + Sync, O: Sink, G: Gate + Sync, D: Ledger + Send>(
     rt: &R,
     alloc: Global,
-    study: &Study,
-    workers: u32,
+    simulation: &Simulation,
     probes: &mut [Box<dyn Probe>],
     out: &mut O,
     gate: &G,
     steps: &mut Steps<D>,
 ) -> Status
-    requires stride { IsStride study.now.stride }
-    requires workers { (0 < workers) × (workers ≤ 64) }
     requires steps { steps.old ≤ 2 ^ 63 }
-    ensures { (reads : ℕ) → Performed (study_table (record { meanings = map (λ p. meaning p) probes.old; titles = map (λ p. title p) probes.old }) study.now.course.value)
-        (study_events study.now.course.value) 0 (study_events study.now.course.value)
+    ensures { let course = simulation.now.study.course.value in (reads : ℕ) → Performed
+        (study_table (record { meanings = map (λ p. meaning p) probes.old; titles = map (λ p. title p) probes.old }) course)
+        (study_events course) 0 (study_events course)
         (record { reads = reads; writes = O.faults out.old; taken = O.taken out.old; steps = steps.old })
         (record { reads = reads; writes = O.faults out.new; taken = O.taken out.new; steps = steps.new })
         result }
 {
-    let course = &study.course;
+    let course = &simulation.study.course;
     let setup = Setup {
-        stride: study.stride,
-        places: NO_PLACES,
+        stride: simulation.study.stride,
+        places: simulation.places,
         keep: Keep::Entries,
-        workers,
+        workers: simulation.workers,
     };
     let worked = match simulate(rt, alloc, course, setup, gate, steps) {
         Ok(worked) => worked,
@@ -118,26 +110,24 @@ fn tell_study<R: Threads + Wait + Sync, O: Sink, G: Gate + Sync, D: Ledger + Sen
     rt: &R,
     alloc: Global,
     bytes: usize,
-    study: &Study,
-    workers: u32,
+    simulation: &Simulation,
     out: &mut O,
     gate: &G,
     steps: &mut Steps<D>,
 ) -> Status
-    requires stride { IsStride study.now.stride }
-    requires workers { (0 < workers) × (workers ≤ 64) }
     requires steps { steps.old ≤ 2 ^ 63 }
-    ensures { (reads : ℕ) → Performed (study_lines bytes study.now.course.value) (study_events study.now.course.value) 0 (study_events study.now.course.value)
+    ensures { let course = simulation.now.study.course.value in (reads : ℕ) → Performed
+        (study_lines bytes course) (study_events course) 0 (study_events course)
         (record { reads = reads; writes = O.faults out.old; taken = O.taken out.old; steps = steps.old })
         (record { reads = reads; writes = O.faults out.new; taken = O.taken out.new; steps = steps.new })
         result }
 {
-    let course = &study.course;
+    let course = &simulation.study.course;
     let setup = Setup {
-        stride: study.stride,
-        places: NO_PLACES,
+        stride: simulation.study.stride,
+        places: simulation.places,
         keep: Keep::Tallied,
-        workers,
+        workers: simulation.workers,
     };
     let before = steps.count();
     let worked = match simulate(rt, alloc, course, setup, gate, steps) {
@@ -215,44 +205,38 @@ fn perform_task<R: Threads + Wait + Sync, O: Sink, G: Gate + Sync, D: Ledger + S
     gate: &G,
     steps: &mut Steps<D>,
 ) -> Ending
-    requires stride { IsStride found.now.study.stride }
     requires task { IsTask found.now.task }
-    requires workers { (0 < found.now.workers) × (found.now.workers ≤ 64) }
     requires steps { steps.old ≤ 2 ^ 63 }
-    ensures { (reads : ℕ) → Finished (verdict_on_found found.now.task (option_map (λ bytes. bytes.items) found.now.further) (study_told found.now.study))
+    ensures { let study = study_told found.now.simulation.study in (reads : ℕ) → Finished
+        (verdict_on_found found.now.task (option_map (λ bytes. bytes.items) found.now.further) study)
         (record { meanings = map (λ p. meaning p) probes.old; titles = map (λ p. title p) probes.old })
         (arguments_of found.now.task)
         (record { reads = reads; writes = O.faults out.old; taken = O.taken out.old; steps = steps.old })
         (record { reads = reads; writes = O.faults out.new; taken = O.taken out.new; steps = steps.new })
         result.status (string_bytes result.name) }
 {
-    let study = &found.study;
-    let workers = found.workers;
+    let simulation = &found.simulation;
     match &found.task {
         Task::Run => {
-            let status = run_study(rt, alloc, study, workers, out, gate, steps);
+            let status = run_study(rt, alloc, simulation, out, gate, steps);
             nameless(alloc, status)
         }
-        Task::Check => nameless(alloc, check_study(alloc, &study.course, out)),
+        Task::Check => nameless(alloc, check_study(alloc, &simulation.study.course, out)),
         Task::Table => {
-            let status = table_study(rt, alloc, study, workers, probes, out, gate, steps);
+            let status = table_study(rt, alloc, simulation, probes, out, gate, steps);
             nameless(alloc, status)
         }
-        Task::Rewind(marks, places) => {
+        Task::Rewind(marks, _) => {
             let marks = marks.as_slice();
-            rewind_study(rt, alloc, study, marks, *places, workers, out, gate, steps)
+            rewind_study(rt, alloc, simulation, marks, out, gate, steps)
         }
-        Task::Cross(crossing, places) => {
+        Task::Cross(crossing, _) => {
             let text = further_text(&found.further);
-            cross_study(
-                rt, alloc, study, crossing, text, *places, workers, out, gate, steps,
-            )
+            cross_study(rt, alloc, simulation, crossing, text, out, gate, steps)
         }
-        Task::Session(_, places) => {
+        Task::Session(..) => {
             let text = further_text(&found.further);
-            session_study(
-                rt, alloc, study, text, *places, workers, probes, out, gate, steps,
-            )
+            session_study(rt, alloc, simulation, text, probes, out, gate, steps)
         }
     }
 }
@@ -267,9 +251,7 @@ pub fn perform<R: Threads + Wait + Sync, O: Sink, G: Gate + Sync, D: Ledger + Se
     gate: &G,
     steps: &mut Steps<D>,
 ) -> Ending
-    requires stride { IsPaced found }
     requires task { IsTasked found }
-    requires workers { IsStaffed found }
     requires steps { steps.old ≤ 2 ^ 63 }
     ensures { (reads : ℕ) → Finished (verdict_on_all found.entry)
         (record { meanings = map (λ p. meaning p) probes.old; titles = map (λ p. title p) probes.old })
@@ -284,13 +266,9 @@ pub fn perform<R: Threads + Wait + Sync, O: Sink, G: Gate + Sync, D: Ledger + Se
             drop(study);
             ending
         }
-        Found::Large {
-            study,
-            bytes,
-            workers,
-        } => {
-            let status = tell_study(rt, alloc, bytes, &study, workers, out, gate, steps);
-            drop(study);
+        Found::Large { simulation, bytes } => {
+            let status = tell_study(rt, alloc, bytes, &simulation, out, gate, steps);
+            drop(simulation);
             nameless(alloc, status)
         }
         Found::Bundle(bytes) => audit_bundle(alloc, bytes, out),

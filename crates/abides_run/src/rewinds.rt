@@ -13,12 +13,13 @@ ghost use Rattle.study_rules.specs.Accepted.{study_told};
 ghost use Rattle.abides_run.specs.Fetched.{arguments_of};
 ghost use Rattle.abides_run.specs.Notes.{past_event};
 ghost use Rattle.abides_run.specs.Output.{Probes, study_events};
-ghost use Rattle.abides_run.specs.Performed.{Finished, IsStride, Sent};
+ghost use Rattle.abides_run.specs.Performed.{Finished, Sent};
 ghost use Rattle.abides_run.specs.Rewinds.{IsThere, lasts_of, rewinds_of, steps_from, steps_to, target_frames, target_state, argument_at};
 ghost use Rattle.abides_run.specs.Verdict.{verdict_on_found};
 ghost use Rattle.command_words.specs.declared.asked.Task.TheVariants as task;
 
 use crate::ending::{Ending, named, nameless};
+use crate::found::Simulation;
 use crate::send::{ToSink, send, sent_status};
 use crate::simulate::simulate;
 use crate::status::Status;
@@ -36,7 +37,6 @@ use rewind_desk::{Aimed, RewindError, Target, aim, first_past, rewind};
 use std::alloc::{AllocError, Global};
 use std::sync::{Arc, Wait};
 use std::thread::Threads;
-use study_rules::Study;
 use trace_bundle::{RunOutcomes, events_of_branch, put_branch_head, send_end};
 
 // The number of the last event of each branch's full run.
@@ -108,7 +108,8 @@ fn send_target<O: Sink, L: Ledger>(
     requires shelf { shelf.now.course ≡ course.now.value }
     requires there { IsThere course.now.value target }
     requires count { steps.old + steps_from shelf.now target < 2 ^ 64 }
-    ensures sent { Sent (target_frames course.now.value target) (O.faults out.old) (O.faults out.new) (O.taken out.old) (O.taken out.new) result }
+    ensures sent { Sent (target_frames course.now.value target)
+        (O.faults out.old) (O.faults out.new) (O.taken out.old) (O.taken out.new) result }
     ensures least { steps.old ≤ steps.new }
     ensures most { steps.new ≤ steps.old + steps_from shelf.now target }
 {
@@ -130,7 +131,8 @@ fn send_targets<O: Sink, L: Ledger>(
     requires shelf { shelf.now.course ≡ course.now.value }
     requires there { All (IsThere course.now.value) targets.now }
     requires count { steps.old + sum_by (steps_from shelf.now) targets.now < 2 ^ 64 }
-    ensures sent { Sent (flat_map (target_frames course.now.value) targets.now) (O.faults out.old) (O.faults out.new) (O.taken out.old) (O.taken out.new) result }
+    ensures sent { Sent (flat_map (target_frames course.now.value) targets.now)
+        (O.faults out.old) (O.faults out.new) (O.taken out.old) (O.taken out.new) result }
     ensures least { steps.old ≤ steps.new }
     ensures most { steps.new ≤ steps.old + sum_by (steps_from shelf.now) targets.now }
 {
@@ -153,7 +155,8 @@ fn send_rewinds<O: Sink, L: Ledger>(
     requires few { length targets.now ≤ 64 }
     requires there { All (IsThere course.now.value) targets.now }
     requires count { steps.old + sum_by (steps_from shelf.now) targets.now < 2 ^ 64 }
-    ensures sent { Sent (rewinds_of course.now.value targets.now) (O.faults out.old) (O.faults out.new) (O.taken out.old) (O.taken out.new) result }
+    ensures sent { Sent (rewinds_of course.now.value targets.now)
+        (O.faults out.old) (O.faults out.new) (O.taken out.old) (O.taken out.new) result }
     ensures least { steps.old ≤ steps.new }
     ensures most { steps.new ≤ steps.old + sum_by (steps_from shelf.now) targets.now }
 {
@@ -170,7 +173,8 @@ fn past_text(alloc: Global, word: &str, last: u32) -> Result<String, AllocError>
 
 /// The end where a branch hasn't the event that an argument or an act names.
 pub fn no_event(alloc: Global, word: &str, last: u32) -> Ending
-    ensures { (result.status ≡ Status.Memory) ⊎ ((result.status ≡ Status.NoEvent) × (string_bytes result.name ≡ past_event word.now last)) }
+    ensures { (result.status ≡ Status.Memory)
+        ⊎ ((result.status ≡ Status.NoEvent) × (string_bytes result.name ≡ past_event word.now last)) }
 {
     match past_text(alloc, word, last) {
         Ok(name) => Ending {
@@ -203,33 +207,30 @@ pub struct Simulated {
 pub fn simulate_kept<R: Threads + Wait + Sync, G: Gate + Sync, D: Ledger + Send>(
     rt: &R,
     alloc: Global,
-    study: &Study,
-    places: u32,
-    workers: u32,
+    simulation: &Simulation,
     gate: &G,
     steps: &mut Steps<D>,
 ) -> Result<Simulated, Memory>
-    requires stride { IsStride study.now.stride }
-    requires places { places ≤ 128 }
-    requires workers { (0 < workers) × (workers ≤ 64) }
     requires steps { steps.old ≤ 2 ^ 63 }
-    ensures shelf { IfOk result (λ s. s.shelf.course ≡ study.now.course.value) }
-    ensures lasts { IfOk result (λ s. s.lasts.items ≡ lasts_of study.now.course.value) }
-    ensures near { IfOk result (λ s. (t : TargetTold) → steps_from s.shelf t ≤ steps_to (study_told study.now) places t) }
-    ensures after { IfOk result (λ s. IsAfterWork study.now.course.value study.now.stride places workers s.shelf) }
-    ensures few { study_events study.now.course.value < 2 ^ 52 }
-    ensures rose { OnOk result (steps.new ≡ steps.old + study_events study.now.course.value) }
+    ensures shelf { IfOk result (λ s. s.shelf.course ≡ simulation.now.study.course.value) }
+    ensures lasts { IfOk result (λ s. s.lasts.items ≡ lasts_of simulation.now.study.course.value) }
+    ensures near { let study = study_told simulation.now.study in IfOk result (λ s. (t : TargetTold) →
+        steps_from s.shelf t ≤ steps_to study simulation.now.places t) }
+    ensures after { let study = study_told simulation.now.study in IfOk result (λ s.
+        IsAfterWork study.course study.stride simulation.now.places simulation.now.workers s.shelf) }
+    ensures few { study_events simulation.now.study.course.value < 2 ^ 52 }
+    ensures rose { OnOk result (steps.new ≡ steps.old + study_events simulation.now.study.course.value) }
     ensures least { steps.old ≤ steps.new }
-    ensures most { steps.new ≤ steps.old + study_events study.now.course.value }
+    ensures most { steps.new ≤ steps.old + study_events simulation.now.study.course.value }
 {
     sure_states_are_held();
     rewinds_after_work();
-    let course = &study.course;
+    let course = &simulation.study.course;
     let setup = Setup {
-        stride: study.stride,
-        places,
+        stride: simulation.study.stride,
+        places: simulation.places,
         keep: Keep::Nothing,
-        workers,
+        workers: simulation.workers,
     };
     let Ok(worked) = simulate(rt, alloc, course, setup, gate, steps) else {
         return Err(Memory);
@@ -250,28 +251,25 @@ pub fn simulate_kept<R: Threads + Wait + Sync, G: Gate + Sync, D: Ledger + Send>
 fn reach_and_write<R: Threads + Wait + Sync, O: Sink, G: Gate + Sync, D: Ledger + Send>(
     rt: &R,
     alloc: Global,
-    study: &Study,
+    simulation: &Simulation,
     marks: &[Mark<'_>],
     targets: &[Target],
-    places: u32,
-    workers: u32,
     out: &mut O,
     gate: &G,
     steps: &mut Steps<D>,
 ) -> Ending
-    requires stride { IsStride study.now.stride }
     requires marks { AreMarks marks.now }
-    requires targets { aimed_at study.now.course.value.plan.branches marks.now ≡ Aimed.At targets.now }
-    requires places { places ≤ 128 }
-    requires workers { (0 < workers) × (workers ≤ 64) }
+    requires targets { aimed_at simulation.now.study.course.value.plan.branches marks.now ≡ Aimed.At targets.now }
     requires steps { steps.old ≤ 2 ^ 63 }
-    ensures { (reads : ℕ) (probes : Probes) → Finished (verdict_on_found (task.Rewind marks.now places) None (study_told study.now)) probes
-        (arguments_of (task.Rewind marks.now places))
+    ensures { let asked = task.Rewind marks.now simulation.now.places in (reads : ℕ) (probes : Probes) → Finished
+        (verdict_on_found asked None (study_told simulation.now.study))
+        probes
+        (arguments_of asked)
         (record { reads = reads; writes = O.faults out.old; taken = O.taken out.old; steps = steps.old })
         (record { reads = reads; writes = O.faults out.new; taken = O.taken out.new; steps = steps.new })
         result.status (string_bytes result.name) }
 {
-    let simulated = match simulate_kept(rt, alloc, study, places, workers, gate, steps) {
+    let simulated = match simulate_kept(rt, alloc, simulation, gate, steps) {
         Ok(simulated) => simulated,
         Err(Memory) => return nameless(alloc, Status::Memory),
     };
@@ -280,7 +278,7 @@ fn reach_and_write<R: Threads + Wait + Sync, O: Sink, G: Gate + Sync, D: Ledger 
         return no_event(alloc, word_of(marks, past.index), past.last);
     }
     let shelf = &simulated.shelf;
-    let sent = send_rewinds(alloc, &study.course, shelf, targets, out, steps);
+    let sent = send_rewinds(alloc, &simulation.study.course, shelf, targets, out, steps);
     drop(simulated);
     nameless(alloc, sent_status(sent))
 }
@@ -291,34 +289,29 @@ fn reach_and_write<R: Threads + Wait + Sync, O: Sink, G: Gate + Sync, D: Ledger 
 pub fn rewind_study<R: Threads + Wait + Sync, O: Sink, G: Gate + Sync, D: Ledger + Send>(
     rt: &R,
     alloc: Global,
-    study: &Study,
+    simulation: &Simulation,
     marks: &[Mark<'_>],
-    places: u32,
-    workers: u32,
     out: &mut O,
     gate: &G,
     steps: &mut Steps<D>,
 ) -> Ending
-    requires stride { IsStride study.now.stride }
     requires marks { AreMarks marks.now }
-    requires places { places ≤ 128 }
-    requires workers { (0 < workers) × (workers ≤ 64) }
     requires steps { steps.old ≤ 2 ^ 63 }
-    ensures { (reads : ℕ) (probes : Probes) → Finished (verdict_on_found (task.Rewind marks.now places) None (study_told study.now)) probes
-        (arguments_of (task.Rewind marks.now places))
+    ensures { let asked = task.Rewind marks.now simulation.now.places in (reads : ℕ) (probes : Probes) → Finished
+        (verdict_on_found asked None (study_told simulation.now.study))
+        probes
+        (arguments_of asked)
         (record { reads = reads; writes = O.faults out.old; taken = O.taken out.old; steps = steps.old })
         (record { reads = reads; writes = O.faults out.new; taken = O.taken out.new; steps = steps.new })
         result.status (string_bytes result.name) }
 {
-    match aim(alloc, study.course.plan(), marks) {
+    match aim(alloc, simulation.study.course.plan(), marks) {
         Ok(Aimed::At(targets)) => reach_and_write(
             rt,
             alloc,
-            study,
+            simulation,
             marks,
             targets.as_slice(),
-            places,
-            workers,
             out,
             gate,
             steps,

@@ -1,6 +1,6 @@
 //! Sessions: the acts of a script over a study's tree of branches, each answered in the tree as it then stands.
 
-ghost use Rattle.std.specs.Prelude.{◌≡◌, ◌⊎◌, ◌≤◌, ◌<◌, ◌^◌, ℕ, false, None, All, length, map, IfOk, string_bytes};
+ghost use Rattle.std.specs.Prelude.{◌≡◌, ◌⊎◌, ◌≤◌, ◌^◌, ℕ, false, None, All, length, map, IfOk, string_bytes};
 ghost use Rattle.branch_tree.specs.Stops.{is_time};
 ghost use Rattle.session_desk.specs.Fitting.{FitsOpening};
 ghost use Rattle.session_desk.specs.Session.{first_session};
@@ -8,11 +8,12 @@ ghost use Rattle.session_desk.specs.Past.{past_act};
 ghost use Rattle.session_desk.specs.Refused.{act_refused};
 ghost use Rattle.study_rules.specs.Accepted.{study_told};
 ghost use Rattle.abides_run.specs.Notes.{past_event};
-ghost use Rattle.abides_run.specs.Performed.{Finished, IsStride};
+ghost use Rattle.abides_run.specs.Performed.{Finished};
 ghost use Rattle.abides_run.specs.Sessions.{act_word, act_words, status_for};
 ghost use Rattle.abides_run.specs.Verdict.{verdict_on_past_act, verdict_on_session};
 
 use crate::ending::{Ending, nameless};
+use crate::found::Simulation;
 use crate::rewinds::{no_event, simulate_kept};
 use crate::send::{send, sent_status};
 use crate::status::Status;
@@ -25,7 +26,6 @@ use session_desk::{Act, PastAct, ScriptError, SessionEnd, carry_out, first_refus
 use std::alloc::{AllocError, Global};
 use std::sync::Wait;
 use std::thread::Threads;
-use study_rules::Study;
 
 // The status for a script that says no acts.
 fn status_for(error: ScriptError) -> Status
@@ -47,7 +47,8 @@ fn act_text(alloc: Global, act: u32) -> Result<String, AllocError>
 
 // The end where an act goes to an event that isn't there.
 fn past_end(alloc: Global, past: PastAct) -> Ending
-    ensures { (result.status ≡ Status.Memory) ⊎ ((result.status ≡ Status.NoEvent) × (string_bytes result.name ≡ past_event (act_word past.act) past.last)) }
+    ensures { (result.status ≡ Status.Memory)
+        ⊎ ((result.status ≡ Status.NoEvent) × (string_bytes result.name ≡ past_event (act_word past.act) past.last)) }
 {
     match act_text(alloc, past.act) {
         Ok(word) => no_event(alloc, word.as_str(), past.last),
@@ -60,24 +61,20 @@ fn past_end(alloc: Global, past: PastAct) -> Ending
 fn reach_and_answer<R: Threads + Wait + Sync, O: Sink, G: Gate + Sync, D: Ledger + Send>(
     rt: &R,
     alloc: Global,
-    study: &Study,
+    simulation: &Simulation,
     acts: &[Act],
-    places: u32,
-    workers: u32,
     probes: &mut [Box<dyn Probe>],
     out: &mut O,
     gate: &G,
     steps: &mut Steps<D>,
 ) -> Ending
-    requires stride { IsStride study.now.stride }
-    requires numbers { All (λ b. is_time b.stop ≡ false) study.now.course.value.plan.branches }
-    requires fit { All (FitsOpening study.now.course.value.opening) acts.now }
+    requires numbers { All (λ b. is_time b.stop ≡ false) simulation.now.study.course.value.plan.branches }
+    requires fit { All (FitsOpening simulation.now.study.course.value.opening) acts.now }
     requires few { length acts.now ≤ 64 }
-    requires stands { act_refused (first_session study.now.course.value) acts.now ≡ None }
-    requires places { places ≤ 128 }
-    requires workers { (0 < workers) × (workers ≤ 64) }
+    requires stands { act_refused (first_session simulation.now.study.course.value) acts.now ≡ None }
     requires steps { steps.old ≤ 2 ^ 63 }
-    ensures { (reads : ℕ) → Finished (verdict_on_past_act acts.now places (study_told study.now) (past_act (first_session study.now.course.value) acts.now))
+    ensures { let study = study_told simulation.now.study in (reads : ℕ) → Finished
+        (verdict_on_past_act acts.now simulation.now.places study (past_act (first_session study.course) acts.now))
         (record { meanings = map (λ p. meaning p) probes.old; titles = map (λ p. title p) probes.old })
         act_words
         (record { reads = reads; writes = O.faults out.old; taken = O.taken out.old; steps = steps.old })
@@ -86,14 +83,14 @@ fn reach_and_answer<R: Threads + Wait + Sync, O: Sink, G: Gate + Sync, D: Ledger
 {
     nearer_states_leave_less();
     left_states_lie_between();
-    let _ = study.course.opening();
-    let simulated = match simulate_kept(rt, alloc, study, places, workers, gate, steps) {
+    let _ = simulation.study.course.opening();
+    let simulated = match simulate_kept(rt, alloc, simulation, gate, steps) {
         Ok(simulated) => simulated,
         Err(Memory) => return nameless(alloc, Status::Memory),
     };
     let shelf = &simulated.shelf;
-    know_left(&study.course, shelf);
-    let answers = match carry_out(alloc, &study.course, shelf, acts, probes, steps) {
+    know_left(&simulation.study.course, shelf);
+    let answers = match carry_out(alloc, &simulation.study.course, shelf, acts, probes, steps) {
         Ok(answers) => answers,
         Err(SessionEnd::NoEvent(past)) => {
             drop(simulated);
@@ -114,20 +111,16 @@ fn reach_and_answer<R: Threads + Wait + Sync, O: Sink, G: Gate + Sync, D: Ledger
 pub fn session_study<R: Threads + Wait + Sync, O: Sink, G: Gate + Sync, D: Ledger + Send>(
     rt: &R,
     alloc: Global,
-    study: &Study,
+    simulation: &Simulation,
     text: &[u8],
-    places: u32,
-    workers: u32,
     probes: &mut [Box<dyn Probe>],
     out: &mut O,
     gate: &G,
     steps: &mut Steps<D>,
 ) -> Ending
-    requires stride { IsStride study.now.stride }
-    requires places { places ≤ 128 }
-    requires workers { (0 < workers) × (workers ≤ 64) }
     requires steps { steps.old ≤ 2 ^ 63 }
-    ensures { (reads : ℕ) → Finished (verdict_on_session places text.now (study_told study.now))
+    ensures { (reads : ℕ) → Finished
+        (verdict_on_session simulation.now.places text.now (study_told simulation.now.study))
         (record { meanings = map (λ p. meaning p) probes.old; titles = map (λ p. title p) probes.old })
         act_words
         (record { reads = reads; writes = O.faults out.old; taken = O.taken out.old; steps = steps.old })
@@ -135,15 +128,13 @@ pub fn session_study<R: Threads + Wait + Sync, O: Sink, G: Gate + Sync, D: Ledge
         result.status (string_bytes result.name) }
 {
     branches_fork_by_number();
-    let acts = match read_script(alloc, text, study) {
+    let acts = match read_script(alloc, text, &simulation.study) {
         Ok(acts) => acts,
         Err(error) => return nameless(alloc, status_for(error)),
     };
-    match first_refused(alloc, &study.course, &acts) {
+    match first_refused(alloc, &simulation.study.course, &acts) {
         Ok(None) => {
-            let ending = reach_and_answer(
-                rt, alloc, study, &acts, places, workers, probes, out, gate, steps,
-            );
+            let ending = reach_and_answer(rt, alloc, simulation, &acts, probes, out, gate, steps);
             drop(acts);
             ending
         }

@@ -9,8 +9,8 @@ ghost use Rattle.abides_run.specs.Rewinds.{lasts_of};
 ghost use Rattle.session_desk.specs.declared.act.Act.TheVariants as act;
 ghost use Rattle.abides_run.specs.Sessions.{act_word};
 ghost use Rattle.abides_run.specs.Words.{asked_of};
-ghost use Rattle.abides_run.specs.Verdict.{verdict, usage, no_file, file_too_long, refused, no_branch, no_stock, bad_orders, bad_bundle, bad_script, refused_act, no_event, accepted, verdict_on_study, verdict_on_found, verdict_on_bundle, verdict_on_script};
-ghost use Rattle.abides_run.specs.Fetched.{fetched};
+ghost use Rattle.abides_run.specs.Verdict.{usage, no_file, file_too_long, refused, no_branch, no_stock, bad_orders, bad_bundle, bad_script, refused_act, no_event, accepted, verdict_on_found, verdict_on_script};
+ghost use Rattle.abides_run.specs.Ahead.{bundle_ahead, fetched, study_ahead, verdict};
 ghost use Rattle.abides_run.specs.Notes.{note, past_event};
 ghost use Rattle.command_words.specs.declared.asked.Request.TheVariants.{File, Large, Bundle};
 ghost use Rattle.command_words.specs.declared.asked.Task.TheVariants as task;
@@ -66,8 +66,8 @@ pub fn asked_words()
 pub fn order_of_refusals()
     ensures faulty { verdict [] [] ≡ usage }
     ensures missing { verdict [] (codes "run" ∷ codes "s" ∷ []) ≡ no_file (codes "s") }
-    ensures absent_study { verdict_on_study [] task.Run (codes "s") absent ≡ no_file (codes "s") }
-    ensures long_study { verdict_on_study [] task.Run (codes "s") too_long ≡ file_too_long (codes "s") }
+    ensures absent_study { (study_ahead [] task.Run (codes "s") absent).verdict ≡ no_file (codes "s") }
+    ensures long_study { (study_ahead [] task.Run (codes "s") too_long).verdict ≡ file_too_long (codes "s") }
     ensures no_table { verdict ((codes "s", 255 ∷ []) ∷ []) (codes "run" ∷ codes "s" ∷ []) ≡ refused 0 0 }
     ensures no_series { verdict ((codes "s", study_with_series) ∷ []) (codes "run" ∷ codes "s" ∷ []) ≡ no_file (codes "t") }
     ensures large { fetched ((codes "7", study_with_series) ∷ []) (codes "big" ∷ codes "7" ∷ []) ≡ [] }
@@ -115,11 +115,11 @@ pub fn audits_of_small_bytes()
     ensures asked { asked_of (codes "audit" ∷ codes "b" ∷ codes "--workers=3" ∷ []) ≡ Some (Bundle (codes "b")) }
     ensures missing { verdict [] (codes "audit" ∷ codes "b" ∷ []) ≡ no_file (codes "b") }
     ensures fetched { fetched [] (codes "audit" ∷ codes "b" ∷ []) ≡ codes "b" ∷ [] }
-    ensures long { verdict_on_bundle (codes "b") too_long ≡ file_too_long (codes "b") }
-    ensures empty { verdict_on_bundle (codes "b") (whole []) ≡ bad_bundle 1 0 }
-    ensures unknown { verdict_on_bundle (codes "b") (whole (0 ∷ 1 ∷ codes "x")) ≡ bad_bundle 2 0 }
-    ensures place { verdict_on_bundle (codes "b") (whole (0 ∷ 3 ∷ codes "z" ++ (0 ∷ 0 ∷ []))) ≡ bad_bundle 3 0 }
-    ensures passed { verdict_on_bundle (codes "b") (whole no_branches_bytes) ≡ accepted (audited no_branches) }
+    ensures long { (bundle_ahead (codes "b") too_long).verdict ≡ file_too_long (codes "b") }
+    ensures empty { (bundle_ahead (codes "b") (whole [])).verdict ≡ bad_bundle 1 0 }
+    ensures unknown { (bundle_ahead (codes "b") (whole (0 ∷ 1 ∷ codes "x"))).verdict ≡ bad_bundle 2 0 }
+    ensures place { (bundle_ahead (codes "b") (whole (0 ∷ 3 ∷ codes "z" ++ (0 ∷ 0 ∷ [])))).verdict ≡ bad_bundle 3 0 }
+    ensures passed { (bundle_ahead (codes "b") (whole no_branches_bytes)).verdict ≡ accepted (audited no_branches) }
 {}
 
 /// The lines of audits.

@@ -9,7 +9,7 @@ returns-in-Study g c = λ reads. rw c.in-Study.is (c.perform_task-ending.ensures
 
 pub returns-in-Large : goal.returns-in-Large
 returns-in-Large g c =
-    λ reads. rw c.in-Large.is (due_finishes _ (described c.in-Large.bytes (study_told c.in-Large.study)) [] _ _ c.tell_study-status.result c.nameless.result.status _
+    λ reads. rw c.in-Large.is (due_finishes _ (described c.in-Large.bytes (study_told c.in-Large.simulation.study)) [] _ _ c.tell_study-status.result c.nameless.result.status _
     c.nameless.ensures (c.tell_study-status.ensures reads) (λ e. tt))
 
 pub returns-in-Bundle : goal.returns-in-Bundle

@@ -25,10 +25,10 @@ returns-clause-after g c = c.in-Ok.ensures.shelf
 
 pub returns-clause-near : goal.returns-clause-near
 returns-clause-near g c =
-    let k : CourseTold = c.args.study.now.course.value in
-    λ t. kept-near k c.args.study.now.stride c.args.places c.args.workers c.in-Ok.worked.shelf c.in-Ok.ensures.shelf
+    let k : CourseTold = c.args.simulation.now.study.course.value in
+    λ t. kept-near k c.args.simulation.now.study.stride c.args.simulation.now.places c.args.simulation.now.workers c.in-Ok.worked.shelf c.in-Ok.ensures.shelf
     (λ x i n. c.sure_states_are_held.ensures x i n)
-    (c.rewinds_after_work.ensures.held k c.args.study.now.stride c.args.places c.args.workers c.in-Ok.worked.shelf c.in-Ok.ensures.shelf) t
+    (c.rewinds_after_work.ensures.held k c.args.simulation.now.study.stride c.args.simulation.now.places c.args.simulation.now.workers c.in-Ok.worked.shelf c.in-Ok.ensures.shelf) t
 
 pub returns-clause-rose : goal.returns-clause-rose
 returns-clause-rose g c = c.in-Ok.ensures.rose
