@@ -39,7 +39,7 @@ entries-moved (x ∷ xs) =
     (entry-moved x) (entries-moved xs)
     ∙ sym (map-append clipped_frame (entry_list x) (flat_map entry_list xs))
 
-closing-moved : (c : Closing) → closing_list (clipped_closing c) ≡ map clipped_frame (closing_list c)
+pub closing-moved : (c : Closing) → closing_list (clipped_closing c) ≡ map clipped_frame (closing_list c)
 closing-moved c =
     let ss = map frame.Stock c.stocks in
     let os = map frame.Order c.orders in

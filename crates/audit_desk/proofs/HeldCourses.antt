@@ -142,7 +142,7 @@ HasAllPositions n a = length a.positions ≡ n
 abbrev pub PositionsOf : Type 0
 PositionsOf = (o : Opening) (s : State) → All (λ (a : ClosingAgent). length a.positions ≡ length s.floor.exchange.stocks) (closing_at o s).agents
 
-closing-texts : (n : ℕ) (o : Opening) (s : State) → length s.floor.exchange.stocks ≡ n → All HasStockTexts s.floor.exchange.stocks
+pub closing-texts : (n : ℕ) (o : Opening) (s : State) → length s.floor.exchange.stocks ≡ n → All HasStockTexts s.floor.exchange.stocks
     → All (HasAllPositions (length s.floor.exchange.stocks)) (closing_at o s).agents → All (InCourse n) (closing_list (closing_at o s))
 closing-texts n o s count texts positions =
     let c = closing_at o s in

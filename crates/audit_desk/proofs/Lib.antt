@@ -28,3 +28,4 @@ pub mod Agreements
 pub mod Fitting
 pub mod Clipping
 pub mod Lifted
+pub mod Typed

@@ -8,3 +8,4 @@ pub mod Agrees
 pub mod Worked
 pub mod Clipped
 pub mod ClippedWorked
+pub mod Typed
