@@ -15,7 +15,7 @@ MayBeKept c stride places held = AreLeft c (layout c.plan stride places) held
 abbrev pub kept_under : CourseTold → ℕ → ℕ → (Key → Bool) → Kept
 kept_under c stride places held b e = nearest_of c (layout c.plan stride places) held b e
 
--- The states that may be kept: those that a run reaches and for which there is a place. With no places, with an empty grid and with
--- a place for each of its states they are those that are sure to be kept.
+-- The states that may be kept: those that a segment has and for which there is a place. With no places, with an empty grid and with
+-- a place for each of its keys, where none lies past the end of a run, they are as near as those that are sure to be kept.
 abbrev pub possibly_kept : CourseTold → ℕ → ℕ → Kept
 possibly_kept c stride places b e = kept_under c stride places (is_possible c (layout c.plan stride places)) b e

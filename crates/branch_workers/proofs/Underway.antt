@@ -126,7 +126,7 @@ module _ (c : CourseTold) (s : ℕ) (h : IsCourse c) (l : s < length (segments_i
         → IsKeyOf c (key_at s e)
     number_is_key keep x is events =
         let stands : StandsAt c.opening c.plan (segment_at c.plan s) e = record { from = omega arith; to = stands_to (here keep x is events) } in
-        record { segment = l; event = inr stands }
+        record { segment = l; event = inr (inl stands) }
 
     pub state_there : (keep : Keep) (x : RanTold) → x ≡ ran_as keep (until_part c.opening (segment_at c.plan s).stop e (started_at c.opening c.plan (segment_at c.plan s))) → x.state.events ≡ e
         → x.state ≡ state_at c (key_at s e)

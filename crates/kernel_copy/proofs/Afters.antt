@@ -1,5 +1,5 @@
 -- States of a segment.
-use Rattle.std.proofs.Common.{◌≡◌, ℕ, ◌<◌, ◌≤◌, inl, inr, false, length, refl, sym, ap, arith}
+use Rattle.std.proofs.Common.{◌≡◌, ℕ, ◌<◌, ◌≤◌, inl, inr, true, false, length, refl, sym, ap, arith}
 use Rattle.std.proofs.lemmas.Bool.{cases_eq, eq-eqb, ne_eqb, le-ltb}
 use Rattle.branch_tree.specs.declared.segment.Segment.{Segment}
 use Rattle.branch_tree.specs.declared.stop.Stop.{Stop}
@@ -16,6 +16,13 @@ use Rattle.kernel_copy.proofs.Walks.{segment-within, segment-stays, segment-unti
 -- after the number of its end's key, a segment's state is its end's
 pub after-end : (o : Opening) (p : Plan) (g : Segment) → after o p g (fork_number g.stop) ≡ (segment_end o p g).state
 after-end o p g = rw (eq-eqb (fork_number g.stop) (fork_number g.stop) refl) refl
+
+-- so it is past its end
+pub after-past : (o : Opening) (p : Plan) (g : Segment) (e : ℕ) → is_past (segment_end o p g).state.events g.stop e ≡ true → after o p g e ≡ (segment_end o p g).state
+after-past o p g e h = elim (cases_eq e (fork_number g.stop)) [
+  | inl same ↦ rw (eq-eqb e (fork_number g.stop) same) refl
+  | inr other ↦ rw (ne_eqb e (fork_number g.stop) other, h) refl
+]
 
 not-past : (events : ℕ) (s : Stop) (e : ℕ) → e ≤ events → is_past events s e ≡ false
 not-past events (At n) e h = rw (le-ltb events e h) refl

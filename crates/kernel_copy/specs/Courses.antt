@@ -1,5 +1,5 @@
 -- Courses, and the checkpoints of their states.
-use Rattle.std.specs.Prelude.{◌≡◌, ◌<◌, ◌≤◌, ◌⊎◌, ℕ, nat_lt, if◌then◌else◌, List, Option, None, Some, length, All}
+use Rattle.std.specs.Prelude.{◌≡◌, ◌<◌, ◌≤◌, ◌⊎◌, ℕ, true, nat_lt, if◌then◌else◌, List, Option, None, Some, length, All}
 use Rattle.market_rules.specs.declared.edit.Edit.{Edit}
 use Rattle.branch_tree.specs.declared.branch.Branch.{Branch}
 use Rattle.branch_tree.specs.declared.segment.Segment.{Segment}
@@ -12,7 +12,7 @@ use Rattle.kernel_core.specs.Open.{opened}
 use Rattle.kernel_core.specs.Edited.{IsEditOf}
 use Rattle.kernel_core.specs.State.{State}
 use Rattle.shelf_core.specs.declared.plan.Key.{Key}
-use Rattle.kernel_copy.specs.Segmentwise.{segment_end, from_count, fork_number, after}
+use Rattle.kernel_copy.specs.Segmentwise.{segment_end, from_count, fork_number, is_past, after}
 
 -- A study's opening and plan as plain data.
 pub record CourseTold : Type 0 where
@@ -44,9 +44,9 @@ pub record StandsAt (o : Opening) (p : Plan) (g : Segment) (e : ℕ) : Type 0 wh
   pub from : from_count o p g ≤ e
   pub to : e ≤ (segment_end o p g).state.events
 
--- The number of a segment's state: that of its end's key, or one at which its run stands.
+-- The number of a segment's state: that of its end's key, one at which its run stands, or one past its end up to its stop.
 abbrev pub IsNumberOf : Opening → Plan → Segment → ℕ → Type 0
-IsNumberOf o p g e = (e ≡ fork_number g.stop) ⊎ StandsAt o p g e
+IsNumberOf o p g e = (e ≡ fork_number g.stop) ⊎ (StandsAt o p g e ⊎ (is_past (segment_end o p g).state.events g.stop e ≡ true))
 
 -- a key of a course: a segment, and the number of one of its states
 pub record IsKeyOf (c : CourseTold) (k : Key) : Type 0 where

@@ -14,7 +14,7 @@ use Rattle.kernel_copy.specs.Courses.{CourseTold, IsCourse, IsKeyOf, state_at}
 use Rattle.kernel_copy.specs.UntilStop.{until_stop, until_part}
 use Rattle.kernel_copy.specs.Full.{begun, reach, full}
 use Rattle.kernel_copy.specs.Segmentwise.{after, afresh, from_count, parent_end, segment_end, started_at, started_from}
-use Rattle.kernel_copy.proofs.Afters.{after-end, after-full}
+use Rattle.kernel_copy.proofs.Afters.{after-end, after-full, after-past}
 use Rattle.kernel_copy.proofs.Pieces.{state_afresh}
 use Rattle.kernel_copy.proofs.Trees.{course-tree}
 use Rattle.kernel_copy.proofs.Walks.{full-begun, has_parent, planned-at, segment-after, segment-before, segment-copy, segment-ends, segment-first, segment-goes, segment-grows, segment-stays, segment-within, started-first, started-goes}
@@ -83,7 +83,10 @@ key-stands c key h k =
     let g = segment_at c.plan key.segment in
     elim k.event [
       | inl fork ↦ stands-end c key h k.segment (ap (λ (n : ℕ). after o c.plan g n) fork ∙ after-end o c.plan g)
-      | inr at ↦ stands-at c key h k.segment at.from at.to
+      | inr other ↦ elim other [
+        | inl at ↦ stands-at c key h k.segment at.from at.to
+        | inr past ↦ stands-end c key h k.segment (after-past o c.plan g key.event past)
+      ]
     ]
 
 pub parent-events : (c : CourseTold) (s q : ℕ) → (segment_at c.plan s).parent ≡ Some q → from_count c.opening c.plan (segment_at c.plan s) ≡ (segment_end c.opening c.plan (segment_at c.plan q)).state.events

@@ -1,5 +1,5 @@
 -- The states that workers leave, and the nearest of them.
-use Rattle.std.proofs.Common.{◌≡◌, ◌≤◌, ◌<◌, ◌⊎◌, ℕ, zero, suc, Bool, true, ◌&&◌, inl, inr, List, [], ◌∷◌, Option, Some, None, get_or, length, slice_get, refl, sym, ap, ◌∙◌, arith, subst, true≢false}
+use Rattle.std.proofs.Common.{◌≡◌, ◌≤◌, ◌<◌, ◌⊎◌, ℕ, zero, suc, Bool, true, ◌&&◌, ◌||◌, inl, inr, List, [], ◌∷◌, Option, Some, None, get_or, length, slice_get, refl, sym, ap, ◌∙◌, arith, subst, true≢false}
 use Rattle.std.specs.Prelude.{is_some, nat_le, nat_lt}
 use Rattle.std.proofs.lemmas.Bool.{and_parts, cases_lt, le-leb, leb-true, lt-ltb, ltb-true, or_left, or_right}
 use Rattle.branch_tree.specs.declared.segment.Segment.{Segment}
@@ -23,7 +23,7 @@ use Rattle.branch_workers.specs.Layout.{grid_keys, layout, stop_number}
 use Rattle.branch_workers.proofs.Grids.{enough_places, grid_key, sole_place}
 use Rattle.rewind_desk.specs.AfterWork.{IsAfterWork}
 use Rattle.rewind_desk.specs.Best.{count_at, is_held, is_near, is_on, keys_in}
-use Rattle.rewind_desk.specs.Left.{AreLeft, is_possible, is_reached, nearest_of}
+use Rattle.rewind_desk.specs.Left.{AreLeft, IsAmple, has_state, is_behind, is_possible, is_reached, nearest_of}
 use Rattle.rewind_desk.specs.Nearest.{HasKeys}
 use Rattle.rewind_desk.specs.Reach.{IsOn}
 use Rattle.rewind_desk.specs.Sure.{HoldsSure, end_events, is_passed, is_sure, is_sure_near, sure}
@@ -63,14 +63,16 @@ unlike-end : (limit e : ℕ) (stop : Stop) → limit < 16777215 → e < stop_num
 unlike-end limit e (At n) few below is = omega (arith, below, is)
 unlike-end limit e (When w) few below is = omega (arith, few, below, is)
 
--- so it is one at which the segment's run stands
-grid-reached : (c : CourseTold) (stride : ℕ) (k : Key) → IsCourse c → is_in k (grid_keys c.plan stride) ≡ true → IsKeyOf c k → is_reached c k.segment k.event ≡ true
-grid-reached c stride k h there key =
+-- so it is one at which the segment has a state
+grid-state : (c : CourseTold) (stride : ℕ) (k : Key) → IsCourse c → is_in k (grid_keys c.plan stride) ≡ true → IsKeyOf c k → has_state c k.segment k.event ≡ true
+grid-state c stride k h there key =
     let few : c.plan.limit < 16777215 = omega (arith, h.limit, h.opening.limit) in
     elim key.event [
       | inl fork ↦ absurd (unlike-end c.plan.limit k.event (segment_at c.plan k.segment).stop few (grid_key c.plan stride k there).below fork)
-      | inr at ↦ and-true (nat_le (from_events c k.segment) k.event) (nat_le k.event (end_events c k.segment))
-          (le-leb (from_events c k.segment) k.event at.from) (le-leb k.event (end_events c k.segment) at.to)
+      | inr (inl at) ↦ or_left (is_reached c k.segment k.event) (is_behind c k.segment k.event)
+          (and-true (nat_le (from_events c k.segment) k.event) (nat_le k.event (end_events c k.segment))
+          (le-leb (from_events c k.segment) k.event at.from) (le-leb k.event (end_events c k.segment) at.to))
+      | inr (inr past) ↦ or_right (is_reached c k.segment k.event) (is_behind c k.segment k.event) past
     ]
 
 -- the keys of the states that a shelf holds
@@ -82,10 +84,10 @@ left-here shelf stride h laid grid keys holds =
     record {
       sure = holds;
       possible = λ k i held. elim (in-either k plan.forks plan.grid i) [
-        | inl fork ↦ or_left (is_in k plan.forks) (is_some (place_of plan k) && is_reached c k.segment k.event) fork
-        | inr between ↦ or_right (is_in k plan.forks) (is_some (place_of plan k) && is_reached c k.segment k.event)
-            (and-true (is_some (place_of plan k)) (is_reached c k.segment k.event) (held-placed shelf k laid held)
-            (grid-reached c stride k h (subst (λ (xs : List Key). is_in k xs ≡ true) grid between) (keys k i held)))
+        | inl fork ↦ or_left (is_in k plan.forks) (is_some (place_of plan k) && has_state c k.segment k.event) fork
+        | inr between ↦ or_right (is_in k plan.forks) (is_some (place_of plan k) && has_state c k.segment k.event)
+            (and-true (is_some (place_of plan k)) (has_state c k.segment k.event) (held-placed shelf k laid held)
+            (grid-state c stride k h (subst (λ (xs : List Key). is_in k xs ≡ true) grid between) (keys k i held)))
       ];
       alone = λ k l a b same. held-alone shelf k l laid a b same;
     }
@@ -118,13 +120,14 @@ sure-possible c plan k known =
     let from = from_events c k.segment in
     let to = end_events c k.segment in
     elim (or_either (is_in k plan.forks) (is_sole plan k && is_passed c k.segment k.event) known) [
-      | inl fork ↦ or_left (is_in k plan.forks) (is_some (place_of plan k) && is_reached c k.segment k.event) fork
+      | inl fork ↦ or_left (is_in k plan.forks) (is_some (place_of plan k) && has_state c k.segment k.event) fork
       | inr both ↦
           let parts = and_parts (is_sole plan k) (is_passed c k.segment k.event) both in
           let passes = and_parts (nat_lt from k.event) (nat_le k.event to) parts.1 in
-          or_right (is_in k plan.forks) (is_some (place_of plan k) && is_reached c k.segment k.event)
-          (and-true (is_some (place_of plan k)) (is_reached c k.segment k.event) (sole_place plan k parts.0)
-          (and-true (nat_le from k.event) (nat_le k.event to) (le-leb from k.event (omega (arith, ltb-true from k.event passes.0))) passes.1))
+          or_right (is_in k plan.forks) (is_some (place_of plan k) && has_state c k.segment k.event)
+          (and-true (is_some (place_of plan k)) (has_state c k.segment k.event) (sole_place plan k parts.0)
+          (or_left (is_reached c k.segment k.event) (is_behind c k.segment k.event)
+          (and-true (nat_le from k.event) (nat_le k.event to) (le-leb from k.event (omega (arith, ltb-true from k.event passes.0))) passes.1)))
     ]
 
 has-index : (k : Key) (i : ℕ) (keys : List Key) → slice_get keys i ≡ Some k → is_in k keys ≡ true
@@ -136,15 +139,19 @@ some-is : (o : Option ℕ) → is_some o ≡ true → (p : ℕ) × (o ≡ Some p
 some-is None h = absurd (true≢false (sym h))
 some-is (Some p) h = (p, refl)
 
+-- where there are no places between, a key that has one is a fork key
+placed-fork : (plan : ShelfPlan) (k : Key) → plan.places ≡ 0 → is_some (place_of plan k) ≡ true → is_in k plan.forks ≡ true
+placed-fork plan k none placed =
+    let at = some-is (place_of plan k) placed in
+    elim (place_cases plan (index_of k plan.forks) (index_of k plan.grid) at.0 at.1) [
+      | inl fork ↦ has-index k at.0 plan.forks (index_found k at.0 plan.forks fork)
+      | inr grid ↦ absurd (grid.2 none)
+    ]
+
 -- where no grid key has a place, or as many places are there as grid keys, one that has a place has it alone
 placed-sole : (plan : ShelfPlan) (k : Key) → (plan.places ≡ 0) ⊎ (length plan.grid ≤ plan.places) → is_in k plan.grid ≡ true → is_some (place_of plan k) ≡ true → is_sole plan k ≡ true
 placed-sole plan k (inr many) there placed = enough_places plan k many there
-placed-sole plan k (inl none) there placed =
-    let at = some-is (place_of plan k) placed in
-    elim (place_cases plan (index_of k plan.forks) (index_of k plan.grid) at.0 at.1) [
-      | inl fork ↦ or_left (is_in k plan.forks) (has_alone plan k (place_of plan k)) (has-index k at.0 plan.forks (index_found k at.0 plan.forks fork))
-      | inr grid ↦ absurd (grid.2 none)
-    ]
+placed-sole plan k (inl none) there placed = or_left (is_in k plan.forks) (has_alone plan k (place_of plan k)) (placed-fork plan k none placed)
 
 get-past : (xs : List Segment) (s : ℕ) → length xs ≤ s → get_or xs s no_segment ≡ no_segment
 get-past [] s past = refl
@@ -164,7 +171,13 @@ on-branch c b s q h l on is =
 
 -- Where each grid key that has a place has it alone, no state that may be left is nearer than the nearest that is sure to be: one
 -- that stands at the events before its segment's own has those of a fork.
-module _ (c : CourseTold) (stride places b e : ℕ) (h : IsCourse c) (ample : (places ≡ 0) ⊎ (length (grid_keys c.plan stride) ≤ places)) where
+module _ (c : CourseTold) (stride places b e : ℕ) (h : IsCourse c) (ample : IsAmple c stride places) where
+  roomy : (places ≡ 0) ⊎ (length (grid_keys c.plan stride) ≤ places)
+  roomy = elim ample [
+    | inl none ↦ inl none
+    | inr all ↦ inr all.0
+  ]
+
   begins-least : (k : Key) → k.segment < length (segments_in c.plan) → IsOn c.plan (last_of c.plan.branches b) k.segment → count_at c k ≡ from_events c k.segment → count_at c k ≤ e
       → count_at c k ≤ sure c (layout c.plan stride places) b e
   begins-least k l on count early = elim (parent_cases (segment_at c.plan k.segment).parent) [
@@ -187,7 +200,7 @@ module _ (c : CourseTold) (stride places b e : ℕ) (h : IsCourse c) (ample : (p
       let low = leb-true from k.event parts.0 in
       let high = leb-true k.event to parts.1 in
       let count = passed-count c k.segment k.event h l low high in
-      let alone = placed-sole laid k ample there placed in
+      let alone = placed-sole laid k roomy there placed in
       elim (cases_lt from k.event) [
         | inl above ↦ sure-least c laid b e k i
             (or_right (is_in k laid.forks) (is_sole laid k && is_passed c k.segment k.event)
@@ -202,18 +215,24 @@ module _ (c : CourseTold) (stride places b e : ℕ) (h : IsCourse c) (ample : (p
       let parts = and_parts (is_on c.plan (last_of c.plan.branches b) k.segment) (nat_le (count_at c k) e) near in
       let early = leb-true (count_at c k) e parts.1 in
       let forked = λ (fork : is_in k laid.forks ≡ true). sure-least c laid b e k i (or_left (is_in k laid.forks) (is_sole laid k && is_passed c k.segment k.event) fork) parts.0 early in
-      elim (or_either (is_in k laid.forks) (is_some (place_of laid k) && is_reached c k.segment k.event) possible) [
+      elim (or_either (is_in k laid.forks) (is_some (place_of laid k) && has_state c k.segment k.event) possible) [
         | inl fork ↦ forked fork
         | inr both ↦ elim (in-either k laid.forks laid.grid i) [
           | inl fork ↦ forked fork
           | inr there ↦
-              let at = and_parts (is_some (place_of laid k)) (is_reached c k.segment k.event) both in
-              grid-least k i there at.0 at.1 parts.0 early
+              let at = and_parts (is_some (place_of laid k)) (has_state c k.segment k.event) both in
+              elim (or_either (is_reached c k.segment k.event) (is_behind c k.segment k.event) at.1) [
+                | inl reached ↦ grid-least k i there at.0 reached parts.0 early
+                | inr behind ↦ elim ample [
+                  | inl none ↦ forked (placed-fork laid k none at.0)
+                  | inr all ↦ absurd (true≢false (sym behind ∙ all.1 k there))
+                ]
+              ]
         ]
       ]
 
 -- so they all come to one number
-pub left-one : (c : CourseTold) (stride places : ℕ) (held : Key → Bool) (b e : ℕ) → IsCourse c → (places ≡ 0) ⊎ (length (grid_keys c.plan stride) ≤ places) → AreLeft c (layout c.plan stride places) held
+pub left-one : (c : CourseTold) (stride places : ℕ) (held : Key → Bool) (b e : ℕ) → IsCourse c → IsAmple c stride places → AreLeft c (layout c.plan stride places) held
     → nearest_of c (layout c.plan stride places) held b e ≡ sure c (layout c.plan stride places) b e
 left-one c stride places held b e h ample left =
     let laid = layout c.plan stride places in
@@ -222,7 +241,7 @@ left-one c stride places held b e h ample left =
     (λ k i near. possible-least c stride places b e h ample k i (left.possible k i (and_left (held k) (is_near c s e k) near)) (and_right (held k) (is_near c s e k) near)) in
     omega (arith, most, left-least c laid held b e left)
 
-pub possible-one : (c : CourseTold) (stride places b e : ℕ) → IsCourse c → (places ≡ 0) ⊎ (length (grid_keys c.plan stride) ≤ places)
+pub possible-one : (c : CourseTold) (stride places b e : ℕ) → IsCourse c → IsAmple c stride places
     → nearest_of c (layout c.plan stride places) (is_possible c (layout c.plan stride places)) b e ≡ sure c (layout c.plan stride places) b e
 possible-one c stride places b e h ample =
     let laid = layout c.plan stride places in

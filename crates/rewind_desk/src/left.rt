@@ -1,14 +1,14 @@
 //! Which states workers leave, and how near the nearest of them is.
 
-ghost use Rattle.std.specs.Prelude.{◌≡◌, ◌⊎◌, ◌≤◌, ℕ, Bool, length};
+ghost use Rattle.std.specs.Prelude.{◌≡◌, ◌≤◌, ℕ, Bool};
 ghost use Rattle.shelf_core.specs.declared.plan.Key.{Key};
 ghost use Rattle.shelf_core.specs.declared.plan.ShelfPlan.{ShelfPlan};
 ghost use Rattle.checkpoint_shelf.specs.Told.{ClosedTold};
 ghost use Rattle.kernel_copy.specs.Courses.{CourseTold, IsCourse};
-ghost use Rattle.branch_workers.specs.Layout.{grid_keys, layout};
+ghost use Rattle.branch_workers.specs.Layout.{layout};
 ghost use Rattle.rewind_desk.specs.AfterWork.{IsAfterWork};
 ghost use Rattle.rewind_desk.specs.Best.{best, is_held};
-ghost use Rattle.rewind_desk.specs.Left.{AreLeft, is_possible, nearest_of};
+ghost use Rattle.rewind_desk.specs.Left.{AreLeft, IsAmple, is_possible, nearest_of};
 ghost use Rattle.rewind_desk.specs.Sure.{sure};
 
 use crate::after_work::rewinds_after_work;
@@ -17,8 +17,8 @@ use checkpoint_shelf::ClosedShelf;
 use kernel_copy::{Checkpoint, Course};
 use std::sync::Arc;
 
-/// What holds of the states on a closed shelf that workers of its course left: they are all that are sure to be left, each was
-/// reached by its segment's run, and no two have one place. Each state is looked at once; nothing is changed. A proof has these
+/// What holds of the states on a closed shelf that workers of its course left: they are all that are sure to be left, each is one
+/// that its segment has, and no two have one place. Each state is looked at once; nothing is changed. A proof has these
 /// facts behind a call.
 pub fn know_left(course: &Arc<Course>, shelf: &ClosedShelf<Checkpoint>)
     requires shelf { shelf.now.course ≡ course.now.value }
@@ -38,11 +38,11 @@ pub fn left_states_lie_between()
     ensures held { (shelf : ClosedTold CourseTold) (b e : ℕ) → nearest_of shelf.course shelf.plan (is_held shelf) b e ≡ best shelf b e }
 {}
 
-/// Where no grid key has a place, and where there are as many places as grid keys, it is one number, whatever the workers did: that
-/// of the nearest state that is sure to be left, and of the nearest that may be.
+/// Where no grid key has a place, and where there are as many places as grid keys and none lies past the end of its segment's run,
+/// it is one number, whatever the workers did: that of the nearest state that is sure to be left, and of the nearest that may be.
 pub fn left_states_are_one_number()
-    ensures sure { (c : CourseTold) (stride places : ℕ) (held : Key → Bool) (b e : ℕ) → IsCourse c → (places ≡ 0) ⊎ (length (grid_keys c.plan stride) ≤ places) → AreLeft c (layout c.plan stride places) held
+    ensures sure { (c : CourseTold) (stride places : ℕ) (held : Key → Bool) (b e : ℕ) → IsCourse c → IsAmple c stride places → AreLeft c (layout c.plan stride places) held
         → nearest_of c (layout c.plan stride places) held b e ≡ sure c (layout c.plan stride places) b e }
-    ensures possible { (c : CourseTold) (stride places b e : ℕ) → IsCourse c → (places ≡ 0) ⊎ (length (grid_keys c.plan stride) ≤ places)
+    ensures possible { (c : CourseTold) (stride places b e : ℕ) → IsCourse c → IsAmple c stride places
         → nearest_of c (layout c.plan stride places) (is_possible c (layout c.plan stride places)) b e ≡ sure c (layout c.plan stride places) b e }
 {}

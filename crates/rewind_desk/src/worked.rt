@@ -6,7 +6,7 @@ ghost use Rattle.market_floor.specs.OpeningWorked.{market, watcher};
 ghost use Rattle.kernel_core.specs.Open.{opened};
 ghost use Rattle.branch_workers.specs.Layout.{layout};
 ghost use Rattle.rewind_desk.specs.Best.{keys_in, most_among};
-ghost use Rattle.rewind_desk.specs.Left.{is_possible};
+ghost use Rattle.rewind_desk.specs.Left.{is_behind, is_possible, is_reached};
 ghost use Rattle.rewind_desk.specs.Nearest.{nearer_of};
 ghost use Rattle.rewind_desk.specs.Reach.{has_more};
 ghost use Rattle.rewind_desk.specs.Worked.{key_at, near_at, six_events};
@@ -34,10 +34,11 @@ pub fn more_before_a_stop()
     ensures quiet { has_more (market 1005 0 []) (stop.At 100) (opened (market 1005 0 [])) ≡ false }
 {}
 
-/// A run has six events, of at most ten, and a copy is kept each four. The state after four may be left; under 8, which the run
-/// doesn't reach, none may.
-pub fn nothing_is_left_past_the_end()
+/// A run has six events, of at most ten, and a copy is kept each four. The state after four may be left. The run doesn't reach 8,
+/// which lies past its end.
+pub fn a_number_past_the_end()
     ensures keys { keys_in (layout six_events.plan 4 16) ≡ key_at 0 4 ∷ key_at 0 8 ∷ [] }
     ensures there { is_possible six_events (layout six_events.plan 4 16) (key_at 0 4) ≡ true }
-    ensures past { is_possible six_events (layout six_events.plan 4 16) (key_at 0 8) ≡ false }
+    ensures unreached { is_reached six_events 0 8 ≡ false }
+    ensures past { is_behind six_events 0 8 ≡ true }
 {}

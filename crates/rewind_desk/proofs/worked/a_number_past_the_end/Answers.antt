@@ -8,8 +8,8 @@ use Rattle.kernel_core.specs.Step.{event_of}
 use Rattle.kernel_core.specs.Until.{advanced}
 use Rattle.kernel_copy.specs.Full.{begun}
 use Rattle.kernel_copy.specs.Segmentwise.{segment_end}
-use Rattle.rewind_desk.proofs.worked.nothing_is_left_past_the_end.Goals as goal
+use Rattle.rewind_desk.proofs.worked.a_number_past_the_end.Goals as goal
 
 pub returns : goal.returns
 unfolding begun segment_end event_of advanced edited_one reaction ruled u32_at block_word double_rounds column_round diagonal_round quarter_round
-returns c = record { keys = refl; there = refl; past = refl }
+returns c = record { keys = refl; there = refl; unreached = refl; past = refl }
