@@ -1,4 +1,4 @@
--- What is accepted is a course with named branches.
+-- What is accepted is a course with named branches, whose edits inject orders that a message can hold.
 use Rattle.std.proofs.Common.{◌≡◌, ℕ, ◌≤◌, true, List, [], ◌∷◌, ◌++◌, length, map, All, Option, None, Some, Ok, Err, refl, ap, subst, arith}
 use Rattle.std.specs.Prelude.{Result, not}
 use Rattle.std.specs.Int.{is_in_range as is_between}
@@ -9,17 +9,14 @@ use Rattle.std.proofs.lemmas.Bool.{and_parts}
 use Rattle.std.proofs.lemmas.Bool.Decides.{nat_tests}
 use Rattle.std.proofs.lemmas.List.Elements.{All-cons, All-nil}
 use Rattle.toml.specs.Data.{Data, Members}
-use Rattle.agent_shell.specs.declared.setting.TraderSetting.{TraderSetting}
 use Rattle.branch_tree.specs.declared.branch.Branch.{Branch}
 use Rattle.branch_tree.specs.Names.{IsNameLength, is_name, is_name_byte}
-use Rattle.fundamental_series.specs.declared.rule.SeriesRow.{SeriesRow}
 use Rattle.kernel_copy.specs.Courses.{IsCourse}
 use Rattle.study_file.specs.Tables.{is_named}
 use Rattle.study_market.specs.declared.early_refusal.Refusal.{Refusal}
 use Rattle.study_market.specs.FirstBroken.{first_of_rules}
 use Rattle.study_market.specs.FirstOfMarket.{early_refusal, first_broken, last_refusal, late_refusal, series_refusal, tables_of}
 use Rattle.study_market.specs.Opening.{IsAccepted}
-use Rattle.study_market.specs.Traders.{traders_of}
 use Rattle.study_market.proofs.Held.{both-none}
 use Rattle.study_market.proofs.Openings.{is-opening}
 use Rattle.study_rules.specs.Accepted.{StudyTold, course_of, first_refusal, rows_in, study_of, told_of}
@@ -33,13 +30,12 @@ use Rattle.study_rules.proofs.Editing.{edits-fit, kinds-said}
 use Rattle.study_rules.proofs.Held.{AreHeld, are-held}
 use Rattle.study_rules.proofs.Making.{edits-fit as edits-among}
 use Rattle.study_rules.proofs.Planned.{planned, rooted}
+use Rattle.market_laws.specs.Texts.{AreMessagesSpelled}
 use Rattle.audit_desk.specs.Clipped.{AreNamed}
+use Rattle.audit_desk.proofs.Edits.{branches-spelled}
 
 abbrev Answer : Type 0
 Answer = Result StudyTold Refusal
-
-abbrev Rows : Type 0
-Rows = List (List SeriesRow)
 
 same-study : (x y : StudyTold) → ◌≡◌ {A = Answer} (Ok x) (Ok y) → x ≡ y
 same-study x y h = ap (λ (r : Answer). result_unwrap_or r x) h
@@ -57,31 +53,31 @@ accepted-parts t series s h =
       | None ↦ λ e. (refl, same-study told s e)
     ] h
 
-rows-told : (r : Result Rows ℕ) (t : Members) → ◌≡◌ {A = Option Refusal} (elim r [ Err number ↦ Some (record { rule = 19; place = number }) | Ok rows ↦ late_refusal t rows ]) None
-    → r ≡ Ok (result_unwrap_or r [])
-rows-told (Ok rows) t h = refl
-rows-told (Err number) t h = absurd (cc h)
+rows-told : {A : Type 0} (r : Result A ℕ) (none : A) (late : A → Option Refusal)
+    → ◌≡◌ {A = Option Refusal} (elim r [ Err number ↦ Some (record { rule = 19; place = number }) | Ok rows ↦ late rows ]) None → r ≡ Ok (result_unwrap_or r none)
+rows-told (Ok rows) none late h = refl
+rows-told (Err number) none late h = absurd (cc h)
 
 accepted : (t : Members) (series : Option (List ℕ)) → first_broken t series ≡ None → IsAccepted t (rows_in t series)
 accepted t series none =
     let late = both-none (early_refusal t) (option_or (series_refusal t series) (last_refusal t)) none in
     let rows = both-none (series_refusal t series) (last_refusal t) late.1 in
-    record { series = series; accepted = none; rows = rows-told (tables_of t series) t rows.0 }
+    record { series = series; accepted = none; rows = rows-told (tables_of t series) [] (late_refusal t) rows.0 }
 
-course-is : (t : Members) (rows : Rows) → IsAccepted t rows → AreHeld t → IsCourse (course_of t rows)
-course-is t rows h held = record {
-  opening = is-opening t rows h;
+course-is : (t : Members) (series : Option (List ℕ)) → IsAccepted t (rows_in t series) → AreHeld t → IsCourse (course_of t (rows_in t series))
+course-is t series h held = record {
+  opening = is-opening t (rows_in t series) h;
   limit = refl;
   rooted = rooted t;
   accepted = planned t held;
-  edits = edits-fit t rows (branches_of t) (edits-among t held (map (λ (s : TraderSetting). s.kind) (traders_of t)) (kinds-said t rows h));
+  edits = edits-fit t (rows_in t series) (branches_of t) (edits-among t held _ (kinds-said t (rows_in t series) h));
 }
 
 pub accepted-course : (t : Members) (series : Option (List ℕ)) (s : StudyTold) → study_of t series ≡ Ok s → IsCourse s.course
 accepted-course t series s h =
     let parts = accepted-parts t series s h in
     let none = both-none (first_broken t series) (first_of_rules branch_rules t) parts.0 in
-    subst (λ (x : StudyTold). IsCourse x.course) parts.1 (course-is t (rows_in t series) (accepted t series none.0) (are-held t none.1))
+    subst (λ (x : StudyTold). IsCourse x.course) parts.1 (course-is t series (accepted t series none.0) (are-held t none.1))
 
 -- ---- names
 
@@ -115,3 +111,8 @@ accepted-named t series s h =
     let parts = accepted-parts t series s h in
     let none = both-none (first_broken t series) (first_of_rules branch_rules t) parts.0 in
     subst (λ (x : StudyTold). AreNamed x.course) parts.1 (branches-named t (are-held t none.1))
+
+-- ---- orders that are injected
+
+pub accepted-spelled : (t : Members) (series : Option (List ℕ)) (s : StudyTold) → study_of t series ≡ Ok s → AreMessagesSpelled s.course
+accepted-spelled t series s h = subst (λ (x : StudyTold). AreMessagesSpelled x.course) (accepted-parts t series s h).1 (branches-spelled t)

@@ -4,9 +4,9 @@ use Rattle.std.proofs.lemmas.Bool.{lt-ltb}
 use Rattle.std.proofs.lemmas.List.Elements.{All-append, All-cons, All-get_or, All-head, All-nil, All-push, All-tail}
 use Rattle.market_types.specs.declared.feed.Feed.{Feed}
 use Rattle.market_types.specs.declared.order.Symbol.{Symbol}
-use Rattle.wire_fields.specs.declared.kind.Kind.TheVariants.{Byte, Letters, Number, Text}
+use Rattle.wire_fields.specs.declared.kind.Kind.TheVariants.{Byte, Letters, Text}
 use Rattle.wire_fields.specs.Kinds.{is_good}
-use Rattle.wire_fields.specs.Values.{number, bytes, is_in_range}
+use Rattle.wire_fields.specs.Values.{bytes, is_in_range}
 use Rattle.wire_fields.specs.Wire.{IsInRange}
 use Rattle.itch_codec.specs.Layouts.{directory_kinds, system_kinds, trading_kinds}
 use Rattle.itch_codec.specs.Messages.{feed_wire}
@@ -19,17 +19,8 @@ use Rattle.trace_bundle.specs.Feed.{directories, directory, opening_feed, symbol
 use Rattle.bundle_reader.specs.Frames.{HasRanges}
 use Rattle.bundle_reader.specs.declared.frame.Frame.TheVariants as frame
 use Rattle.bundle_reader.specs.Bundle.{feed_list}
-use Rattle.audit_desk.proofs.Texts.{all-in, number-in, symbol-in}
-
--- numbers of two, four, six and eight bytes
-pub two : (n : ℕ) → n < 65536 → is_in_range (Number 2) (number n) ≡ true
-two n h = number-in 2 n h
-
-pub four : (n : ℕ) → n < 4294967296 → is_in_range (Number 4) (number n) ≡ true
-four n h = number-in 4 n h
-
-pub six : (n : ℕ) → n < 281474976710656 → is_in_range (Number 6) (number n) ≡ true
-six n h = number-in 6 n h
+use Rattle.market_laws.specs.Fields.{IsFeedInRange}
+use Rattle.market_laws.proofs.Texts.{all-in, four, six, symbol-in, two}
 
 pub byte-in : (b : ℕ) → b < 256 → is_in_range Byte (byte b) ≡ true
 unfolding is_in_range is_good
@@ -47,9 +38,6 @@ branch-in branch parent stop name p q r n =
     all-in branch_kinds (branch_wire branch parent stop name).values (two branch p, (two parent q, (four stop r, (byte-in (length name) n, tt))))
 
 -- ---- the feed
-
-abbrev IsFeedInRange : Feed → Type 0
-IsFeedInRange m = IsInRange (feed_wire m)
 
 system-in : (time code : ℕ) → time < 281474976710656 → is_in_range (Letters 1) (bytes (code ∷ [])) ≡ true → IsFeedInRange (system_event time code)
 system-in time code early letter =
@@ -101,7 +89,7 @@ trading-in time k s early few text =
     all-in trading_kinds (feed_wire (trading time k s)).values
     (two (k + 1) few, (two 0 (omega arith), (six time early, (text, (refl, (refl, (refl, tt)))))))
 
-pub symbols-in : (o : Opening) (k : ℕ) → All IsStock o.stocks → k < length o.stocks → is_in_range (Text 8) (bytes (symbol_at o k).0) ≡ true
+symbols-in : (o : Opening) (k : ℕ) → All IsStock o.stocks → k < length o.stocks → is_in_range (Text 8) (bytes (symbol_at o k).0) ≡ true
 symbols-in o k h l =
     let s = All-get_or IsStock o.stocks k no_rules l h in
     symbol-in (symbol_at o k) s.symbol

@@ -14,7 +14,7 @@ use Rattle.study_rules.specs.Branches.{branch_of, branches_of, root_branch}
 use Rattle.study_rules.specs.EditRules.{◌>>=◌, agent_in, edit_in, fee_in, group_in, has_param, inject_in, is_param_value, kind_of_trader, latency_in, message_in, natural_in, param_named, series_in, stock_in, tick_in, trader_in}
 use Rattle.study_rules.specs.Entries.{branch_entries, edits_in, entry_of}
 use Rattle.study_rules.specs.Scope.{Scope, scope_of}
-use Rattle.audit_desk.specs.Spelled.{HasMessageTexts}
+use Rattle.market_laws.specs.Texts.{HasMessageTexts}
 use Rattle.audit_desk.proofs.Orders.{message-spelled}
 
 -- what is said is an edit that injects no order, or one that a message can hold

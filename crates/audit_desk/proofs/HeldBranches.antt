@@ -24,7 +24,7 @@ use Rattle.bundle_reader.specs.Order.{belongs, is_of_orders, is_system, is_tradi
 use Rattle.bundle_reader.specs.Told.{BranchTold}
 use Rattle.bundle_reader.specs.Bundle.{AreAgents, AreStocks, HasFeed, IsApart, IsBranch, IsClosing, IsOpening, IsSplit, is_left, stand}
 use Rattle.audit_desk.specs.AsRead.{as_read, with_first, without_first}
-use Rattle.audit_desk.proofs.Marks.{IsMarkedInRange}
+use Rattle.audit_desk.proofs.Marked.{IsMarkedInRange}
 use Rattle.audit_desk.specs.Clipped.{clipped_agent, clipped_branch, clipped_closing, clipped_edit, clipped_entry, clipped_feed, clipped_stock, clipped_what}
 use Rattle.audit_desk.proofs.HeldFields.{fields-kept}
 use Rattle.audit_desk.proofs.HeldMessages.{feed-kept}

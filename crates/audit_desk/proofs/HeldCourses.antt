@@ -45,23 +45,20 @@ use Rattle.bundle_reader.proofs.Ranges.{are_in}
 use Rattle.bundle_reader.specs.Reading.{Read, bad_frame, bad_order, cut, read}
 use Rattle.audit_desk.specs.AsRead.{as_read}
 use Rattle.audit_desk.specs.Back.{branch_back, branches_back, bundle_back}
-use Rattle.audit_desk.specs.Fields.{HasEventTexts, HasTexts, is_number, texts_in_range}
-use Rattle.audit_desk.specs.Spelled.{AreMessagesSpelled}
-use Rattle.audit_desk.proofs.Adds.{HasFeedTexts}
+use Rattle.market_laws.specs.Fields.{IsFeedInRange}
+use Rattle.market_laws.specs.Market.{exchange_of}
+use Rattle.market_laws.specs.Texts.{HasEventTexts, HasStockTexts, HasTexts, IsToken, is_number, texts_in_range}
 use Rattle.audit_desk.proofs.Around.{close-in, opening-in}
 use Rattle.audit_desk.proofs.Branches.{StatesOf}
 use Rattle.audit_desk.proofs.Lists.{length-back}
-use Rattle.audit_desk.proofs.Marks.{IsMarkedInRange, marked-full}
-use Rattle.audit_desk.proofs.Replies.{HasToken, HasTokens, all-at}
-use Rattle.audit_desk.proofs.Spellings.{IsToken}
+use Rattle.market_laws.proofs.Replies.{all-at, no-texts}
+use Rattle.audit_desk.proofs.Marked.{IsMarkedInRange, MarkedOf}
 use Rattle.audit_desk.proofs.Splits.{same-frames}
 use Rattle.audit_desk.proofs.Widths.{frame-short}
 use Rattle.audit_desk.specs.Clipped.{AreNamed, clipped, clipped_branch}
 use Rattle.audit_desk.proofs.HeldBranches.{IsSteady, branch-kept, steady-read}
 use Rattle.audit_desk.proofs.HeldBundles.{bundle-moved}
 use Rattle.audit_desk.proofs.HeldFrames.{HasFrameTexts, clipped_frame, frame-fits}
-use Rattle.audit_desk.proofs.LetterRuns.{HasEventLetter, full-letters, full-spelled}
-use Rattle.audit_desk.proofs.Letters.{HasLetter}
 
 -- ---- texts of fields that are in their ranges
 
@@ -89,37 +86,27 @@ byte-below b h = ltb-true b 256 (and_parts (nat_lt b 256) true h).0
 abbrev InCourse : ℕ → Frame → Type 0
 InCourse n f = HasFrameTexts n f
 
-said-texts : (n : ℕ) (xs : List Feed) → All HasFeedTexts xs → All (InCourse n) (feed_list xs)
-said-texts n xs h = All-map (InCourse n) frame.Message xs h
+abbrev HasFeedTexts : Feed → Type 0
+HasFeedTexts m = HasTexts (feed_wire m)
 
-feed-texts : (n : ℕ) (xs : List Feed) → All (λ (m : Feed). IsInRange (feed_wire m)) xs → All (InCourse n) (feed_list xs)
-feed-texts n xs h = said-texts n xs (All-weaker (λ (m : Feed). IsInRange (feed_wire m)) HasFeedTexts (λ m r. wire-texts (feed_wire m) r) xs h)
+feed-texts : (n : ℕ) (xs : List Feed) → All IsFeedInRange xs → All (InCourse n) (feed_list xs)
+feed-texts n xs h = All-map (InCourse n) frame.Message xs (All-weaker IsFeedInRange HasFeedTexts (λ m r. wire-texts (feed_wire m) r) xs h)
 
--- what is so of an entry of a course's run
-record IsWritten (x : EntryTold) : Type 0 where
-  marked : IsMarkedInRange x
-  texts : HasEventTexts x
-  letter : HasEventLetter x
-
-entry-texts : (n : ℕ) (x : EntryTold) → IsWritten x → All (InCourse n) (entry_list x)
-entry-texts n (event e) h =
+entry-texts : (n : ℕ) (x : EntryTold) → IsMarkedInRange x → HasEventTexts x → All (InCourse n) (entry_list x)
+entry-texts n (event e) marked texts =
     let here = frame.Event (event_part e) in
-    All-append (InCourse n) (feed_list e.before) (here ∷ feed_list e.after) (feed-texts n e.before h.marked.0)
-    (All-cons (InCourse n) here (feed_list e.after) (h.texts, h.letter) (said-texts n e.after h.marked.1))
-entry-texts n (edit d) h =
-    let letter = byte-below d.letter (are_in edit_kinds (edit_wire d).values h.marked.0).1.1.1.1.0 in
-    All-cons (InCourse n) (frame.Edit (edit_part d)) (feed_list d.feed) letter (feed-texts n d.feed h.marked.1)
+    All-append (InCourse n) (feed_list e.before) (here ∷ feed_list e.after) (feed-texts n e.before marked.0)
+    (All-cons (InCourse n) here (feed_list e.after) texts (feed-texts n e.after marked.1))
+entry-texts n (edit d) marked texts =
+    let letter = byte-below d.letter (are_in edit_kinds (edit_wire d).values marked.0).1.1.1.1.0 in
+    All-cons (InCourse n) (frame.Edit (edit_part d)) (feed_list d.feed) letter (feed-texts n d.feed marked.1)
 
-entries-texts : (n : ℕ) (xs : List EntryTold) → All IsMarkedInRange xs → All HasEventTexts xs → All HasEventLetter xs → All (InCourse n) (flat_map entry_list xs)
-entries-texts n [] marked texts letters = All-nil (InCourse n)
-entries-texts n (x ∷ xs) marked texts letters =
-    let first : IsWritten x = record {
-      marked = All-head IsMarkedInRange x xs marked;
-      texts = All-head HasEventTexts x xs texts;
-      letter = All-head HasEventLetter x xs letters;
-    } in
-    All-append (InCourse n) (entry_list x) (flat_map entry_list xs) (entry-texts n x first)
-    (entries-texts n xs (All-tail IsMarkedInRange x xs marked) (All-tail HasEventTexts x xs texts) (All-tail HasEventLetter x xs letters))
+entries-texts : (n : ℕ) (xs : List EntryTold) → All IsMarkedInRange xs → All HasEventTexts xs → All (InCourse n) (flat_map entry_list xs)
+entries-texts n [] marked texts = All-nil (InCourse n)
+entries-texts n (x ∷ xs) marked texts =
+    All-append (InCourse n) (entry_list x) (flat_map entry_list xs)
+    (entry-texts n x (All-head IsMarkedInRange x xs marked) (All-head HasEventTexts x xs texts))
+    (entries-texts n xs (All-tail IsMarkedInRange x xs marked) (All-tail HasEventTexts x xs texts))
 
 -- ---- frames of a closing
 
@@ -133,20 +120,20 @@ end-letter (Some QueueFull) = omega arith
 abbrev IsStateByte : ClosingStock → Type 0
 IsStateByte s = s.state < 256
 
-stocks-texts : (s : State) (n : ℕ) → All HasLetter s.floor.exchange.stocks → All IsStateByte (stocks_closed s n)
+stocks-texts : (s : State) (n : ℕ) → All HasStockTexts s.floor.exchange.stocks → All IsStateByte (stocks_closed s n)
 stocks-texts s zero h = All-nil IsStateByte
 stocks-texts s (suc n) h =
     All-push IsStateByte (stocks_closed s n) (stock_closed n (offset_at s.floor n) (stock_at s.floor.exchange n)) (stocks-texts s n h)
-    (all-at HasLetter no_stock (omega arith) s.floor.exchange.stocks n h)
+    (all-at HasStockTexts no_stock no-texts s.floor.exchange.stocks n h).state
 
 abbrev HasClosedToken : ClosingOrder → Type 0
 HasClosedToken o = IsToken o.token
 
-orders-texts : (x : Exchange) (n : ℕ) → All HasTokens x.stocks → All HasClosedToken (orders_closed x n)
+orders-texts : (x : Exchange) (n : ℕ) → All HasStockTexts x.stocks → All HasClosedToken (orders_closed x n)
 orders-texts x zero h = All-nil HasClosedToken
 orders-texts x (suc n) h =
     All-append HasClosedToken (orders_closed x n) (map (order_closed n) (stock_at x n).book) (orders-texts x n h)
-    (All-map HasClosedToken (order_closed n) (stock_at x n).book (all-at HasTokens no_stock (All-nil HasToken) x.stocks n h))
+    (All-map HasClosedToken (order_closed n) (stock_at x n).book (all-at HasStockTexts no_stock no-texts x.stocks n h).tokens)
 
 abbrev HasAllPositions : ℕ → ClosingAgent → Type 0
 HasAllPositions n a = length a.positions ≡ n
@@ -155,16 +142,16 @@ HasAllPositions n a = length a.positions ≡ n
 abbrev pub PositionsOf : Type 0
 PositionsOf = (o : Opening) (s : State) → All (λ (a : ClosingAgent). length a.positions ≡ length s.floor.exchange.stocks) (closing_at o s).agents
 
-closing-texts : (n : ℕ) (o : Opening) (s : State) → length s.floor.exchange.stocks ≡ n → All HasLetter s.floor.exchange.stocks → All HasTokens s.floor.exchange.stocks
+closing-texts : (n : ℕ) (o : Opening) (s : State) → length s.floor.exchange.stocks ≡ n → All HasStockTexts s.floor.exchange.stocks
     → All (HasAllPositions (length s.floor.exchange.stocks)) (closing_at o s).agents → All (InCourse n) (closing_list (closing_at o s))
-closing-texts n o s count letters tokens positions =
+closing-texts n o s count texts positions =
     let c = closing_at o s in
     let P = InCourse n in
     let agents : All (HasAllPositions n) c.agents = subst (λ (k : ℕ). All (HasAllPositions k) c.agents) count positions in
     All-cons P (frame.Counts c.counts) (map frame.Stock c.stocks ++ map frame.Order c.orders ++ map frame.Agent c.agents) (end-letter (end_of o s))
     (All-append P (map frame.Stock c.stocks ++ map frame.Order c.orders) (map frame.Agent c.agents)
-    (All-append P (map frame.Stock c.stocks) (map frame.Order c.orders) (All-map P frame.Stock c.stocks (stocks-texts s (length s.floor.exchange.stocks) letters))
-    (All-map P frame.Order c.orders (orders-texts s.floor.exchange (length s.floor.exchange.stocks) tokens)))
+    (All-append P (map frame.Stock c.stocks) (map frame.Order c.orders) (All-map P frame.Stock c.stocks (stocks-texts s (length s.floor.exchange.stocks) texts))
+    (All-map P frame.Order c.orders (orders-texts s.floor.exchange (length s.floor.exchange.stocks) texts)))
     (All-map P frame.Agent c.agents agents))
 
 -- ---- frames of a branch
@@ -175,28 +162,39 @@ opening-texts n (m ∷ ms) h =
     All-cons (InCourse n) (frame.Message m) (feed_list ms) (wire-texts (feed_wire m) (All-head (HasRanges (Some n)) (frame.Message m) (feed_list ms) h))
     (opening-texts n ms (All-tail (HasRanges (Some n)) (frame.Message m) (feed_list ms) h))
 
-branch-texts : (c : CourseTold) (b : ℕ) → IsCourse c → AreMessagesSpelled c → AreNamed c → PositionsOf → StatesOf c → b < length c.plan.branches
+-- what the law of texts says of a branch's full run
+pub record HasRunTexts (c : CourseTold) (b : ℕ) : Type 0 where
+  pub events : All HasEventTexts (full_run c.opening c.plan b).entries
+  pub stocks : All HasStockTexts (exchange_of (full_run c.opening c.plan b)).stocks
+
+-- What the laws of a course's runs say.
+pub record IsLawful (c : CourseTold) : Type 0 where
+  pub texts : (b : ℕ) → HasRunTexts c b
+  pub marked : MarkedOf c
+  pub positions : PositionsOf
+  pub states : StatesOf c
+
+branch-texts : (c : CourseTold) (b : ℕ) → IsCourse c → IsLawful c → AreNamed c → b < length c.plan.branches
     → All (InCourse (length c.opening.stocks)) (branch_list b (branch_back c b))
-branch-texts c b is spelled named positions states l =
+branch-texts c b is laws named l =
     let o = c.opening in
     let n = length o.stocks in
     let P = InCourse n in
     let r = full_run o c.plan b in
-    let texts = full-spelled c b o.limit is spelled in
-    let letters = full-letters c b o.limit in
-    let reached = states b o.limit l in
+    let texts = laws.texts b in
+    let reached = laws.states b o.limit l in
     let time : r.state.time < 281474976710656 = omega (arith, reached.close, is.opening.close) in
     let name : IsNameLength (length (branch_at c.plan.branches b).name) = All-get_or (λ (y : Branch). IsNameLength (length y.name)) c.plan.branches b no_branch l named in
     let first = frame.Branch (record { branch = b; parent = parent_written c b; stop = stop_written c b; name = (branch_at c.plan.branches b).name }) in
     let last = frame.Message (system_event r.state.time 67) in
     let closing = closing_list (closing_at o r.state) in
-    let entries : All P (flat_map entry_list (as_read r.entries)) = subst (λ (fs : List Frame). All P fs) (sym (same-frames r.entries)) (entries-texts n r.entries (marked-full c b o.limit is l) texts.entries letters.entries) in
+    let entries : All P (flat_map entry_list (as_read r.entries)) = subst (λ (fs : List Frame). All P fs) (sym (same-frames r.entries)) (entries-texts n r.entries (laws.marked b l) texts.events) in
     let opening : All P (feed_list (opening_feed o)) = opening-texts n (opening_feed o) (opening-in (Some n) o is.opening) in
     All-cons P first (feed_list (opening_feed o) ++ flat_map entry_list (as_read r.entries) ++ (last ∷ closing)) (omega (arith, l, course-few c is), name)
     (All-append P (feed_list (opening_feed o) ++ flat_map entry_list (as_read r.entries)) (last ∷ closing)
     (All-append P (feed_list (opening_feed o)) (flat_map entry_list (as_read r.entries)) opening entries)
     (All-cons P last closing (wire-texts (feed_wire (system_event r.state.time 67)) (close-in r.state.time time))
-    (closing-texts n o r.state (sym reached.floor.stocks) letters.state.stocks texts.state.floor.books (positions o r.state))))
+    (closing-texts n o r.state (sym reached.floor.stocks) texts.stocks (laws.positions o r.state))))
 
 list-push : (n : ℕ) (bs : List BranchTold) (b : BranchTold) → branches_list n (bs ++ b ∷ []) ≡ branches_list n bs ++ branch_list (n + length bs) b
 list-push n [] b = let e : n ≡ n + length {A = BranchTold} [] = omega arith in append-nil (branch_list n b) ∙ ap (λ k. branch_list k b) e
@@ -206,19 +204,19 @@ list-push n (c ∷ cs) b =
     ∙ sym (append_assoc (branch_list n c) (branches_list (n + 1) cs) (branch_list (n + 1 + length cs) b))
     ∙ ap (λ k. (branch_list n c ++ branches_list (n + 1) cs) ++ branch_list k b) e
 
-branches-texts : (c : CourseTold) (n : ℕ) → IsCourse c → AreMessagesSpelled c → AreNamed c → PositionsOf → StatesOf c → n ≤ length c.plan.branches
+branches-texts : (c : CourseTold) (n : ℕ) → IsCourse c → IsLawful c → AreNamed c → n ≤ length c.plan.branches
     → All (InCourse (length c.opening.stocks)) (branches_list 0 (branches_back c n))
-branches-texts c zero is spelled named positions states le = All-nil (InCourse (length c.opening.stocks))
-branches-texts c (suc n) is spelled named positions states le =
+branches-texts c zero is laws named le = All-nil (InCourse (length c.opening.stocks))
+branches-texts c (suc n) is laws named le =
     let P = InCourse (length c.opening.stocks) in
     let at : 0 + length (branches_back c n) ≡ n = omega (arith, length-back c n) in
     let list = list-push 0 (branches_back c n) (branch_back c n) ∙ ap (λ k. branches_list 0 (branches_back c n) ++ branch_list k (branch_back c n)) at in
     subst (λ (fs : List Frame). All P fs) (sym list)
-    (All-append P (branches_list 0 (branches_back c n)) (branch_list n (branch_back c n)) (branches-texts c n is spelled named positions states (omega (arith, le)))
-    (branch-texts c n is spelled named positions states (omega (arith, le))))
+    (All-append P (branches_list 0 (branches_back c n)) (branch_list n (branch_back c n)) (branches-texts c n is laws named (omega (arith, le)))
+    (branch-texts c n is laws named (omega (arith, le))))
 
-all-texts : (c : CourseTold) → IsCourse c → AreMessagesSpelled c → AreNamed c → PositionsOf → StatesOf c → All (InCourse (length c.opening.stocks)) (bundle_list (bundle_back c))
-all-texts c is spelled named positions states =
+all-texts : (c : CourseTold) → IsCourse c → IsLawful c → AreNamed c → All (InCourse (length c.opening.stocks)) (bundle_list (bundle_back c))
+all-texts c is laws named =
     let n = length c.plan.branches in
     let P = InCourse (length c.opening.stocks) in
     let agents = length c.opening.traders + 1 in
@@ -227,7 +225,7 @@ all-texts c is spelled named positions states =
     let first = frame.Header (record { agents = agents; stocks = stocks; branches = length (branches_back c n) }) in
     let last = frame.End (length (branches_back c n)) in
     All-cons P first (branches_list 0 (branches_back c n) ++ last ∷ []) few
-    (All-append P (branches_list 0 (branches_back c n)) (last ∷ []) (branches-texts c n is spelled named positions states (omega arith))
+    (All-append P (branches_list 0 (branches_back c n)) (last ∷ []) (branches-texts c n is laws named (omega arith))
     (All-cons P last [] few (All-nil P)))
 
 -- ---- branches
@@ -235,12 +233,12 @@ all-texts c is spelled named positions states =
 abbrev AreSteady : BranchTold → Type 0
 AreSteady b = All IsSteady b.entries
 
-branches-steady : (c : CourseTold) (n : ℕ) → IsCourse c → n ≤ length c.plan.branches → All AreSteady (branches_back c n)
-branches-steady c zero is le = All-nil AreSteady
-branches-steady c (suc n) is le =
+branches-steady : (c : CourseTold) (n : ℕ) → MarkedOf c → n ≤ length c.plan.branches → All AreSteady (branches_back c n)
+branches-steady c zero marked le = All-nil AreSteady
+branches-steady c (suc n) marked le =
     let r = full_run c.opening c.plan n in
-    All-push AreSteady (branches_back c n) (branch_back c n) (branches-steady c n is (omega (arith, le)))
-    (steady-read r.entries (marked-full c n c.opening.limit is (omega (arith, le))))
+    All-push AreSteady (branches_back c n) (branch_back c n) (branches-steady c n marked (omega (arith, le)))
+    (steady-read r.entries (marked n (omega (arith, le))))
 
 branches-kept : (stocks agents : ℕ) (bs : List BranchTold) → stocks < 65536 → agents < 65536 → All AreSteady bs → All (IsBranch stocks agents) bs → All (IsBranch stocks agents) (map clipped_branch bs)
 branches-kept stocks agents [] few small steady h = All-nil (IsBranch stocks agents)
@@ -270,11 +268,11 @@ bundle-is b few small steady branches texts =
       short = All-weaker (HasRanges (Some b.stocks)) (λ f. length (payload f) ≤ 65535) (λ f r. frame-short b.stocks f few r) (bundle_list (clipped b)) ranges;
     }
 
-pub course-clipped : (c : CourseTold) → IsCourse c → AreMessagesSpelled c → AreNamed c → PositionsOf → StatesOf c
+pub course-clipped : (c : CourseTold) → IsCourse c → IsLawful c → AreNamed c
     → All (IsBranch (bundle_back c).stocks (bundle_back c).agents) (bundle_back c).branches → IsBundle (clipped (bundle_back c))
-course-clipped c is spelled named positions states branches =
+course-clipped c is laws named branches =
     bundle-is (bundle_back c) is.opening.market.few (omega (arith, few-traders c.opening is.opening))
-    (branches-steady c (length c.plan.branches) is (omega arith)) branches (all-texts c is spelled named positions states)
+    (branches-steady c (length c.plan.branches) laws.marked (omega arith)) branches (all-texts c is laws named)
 
 -- ---- where all fits
 

@@ -8,8 +8,8 @@ use Rattle.wire_fields.specs.Kinds.{width}
 use Rattle.wire_fields.specs.Numbers.{number_bytes}
 use Rattle.wire_fields.specs.Values.{FieldValue, bytes, is_in_range, number, spelled}
 use Rattle.wire_fields.specs.Wire.{IsInRange, Wire, are_in_range, spelled_fields, spelling}
-use Rattle.audit_desk.specs.Fields.{HasTexts, is_number, texts_in_range}
-use Rattle.audit_desk.proofs.Texts.{number-in}
+use Rattle.market_laws.specs.Texts.{HasTexts, is_number, texts_in_range}
+use Rattle.market_laws.proofs.Texts.{number-in}
 
 -- ---- a number's last bytes
 

@@ -25,14 +25,14 @@ use Rattle.bundle_reader.specs.declared.frame.Frame.TheVariants.{Header, Branch,
 use Rattle.bundle_reader.specs.declared.frame.EventFrame.{EventFrame}
 use Rattle.bundle_reader.specs.declared.frame.WaitingFrame.{WaitingFrame}
 use Rattle.bundle_reader.specs.Frames.{HasRanges, edit_with, event_with, payload, waiting_wire}
-use Rattle.audit_desk.specs.Fields.{HasBodyTexts, HasTexts}
+use Rattle.market_laws.specs.Texts.{HasBodyTexts, HasTexts, IsToken}
 use Rattle.audit_desk.proofs.Around.{branch-in, byte-in, end-in, header-in}
-use Rattle.audit_desk.proofs.Numbers.{delivery-in, letter-in, side-in, silence-in}
-use Rattle.audit_desk.proofs.Spellings.{IsToken, texts-in}
+use Rattle.audit_desk.proofs.FrameLetters.{delivery-in, letter-in, side-in, silence-in}
+use Rattle.market_laws.proofs.Spellings.{texts-in}
 use Rattle.audit_desk.specs.Clipped.{clipped_agent, clipped_body, clipped_counts, clipped_feed, clipped_number, clipped_order, clipped_signed, clipped_stock, clipped_wide}
 use Rattle.audit_desk.proofs.HeldFields.{held_wire, number-below, number-held, stand_all, wire-fits, wire-spelled}
 use Rattle.audit_desk.proofs.HeldSigned.{high-back, low-back, positions-fit, positions-same, signed-back, signed-fits, wide-fits}
-use Rattle.audit_desk.proofs.HeldMessages.{HasBodyLetter, body-fits, body-same, feed-fits, feed-spelled, letter-same}
+use Rattle.audit_desk.proofs.HeldMessages.{body-fits, body-same, feed-fits, feed-spelled, letter-same}
 
 abbrev clipped_event_frame : EventFrame → EventFrame
 clipped_event_frame e = record {
@@ -250,13 +250,13 @@ abbrev pub HasFrameTexts : ℕ → Frame → Type 0
 HasFrameTexts stocks (Header h) = h.branches < 65536
 HasFrameTexts stocks (Branch b) = (b.branch < 65536) × IsNameLength (length b.name)
 HasFrameTexts stocks (Message m) = HasTexts (feed_wire m)
-HasFrameTexts stocks (Event e) = HasBodyTexts e.body × HasBodyLetter e.body
+HasFrameTexts stocks (Event e) = HasBodyTexts e.body
 HasFrameTexts stocks (Edit d) = d.letter < 256
 HasFrameTexts stocks (Counts c) = c.end < 256
 HasFrameTexts stocks (Stock s) = s.state < 256
 HasFrameTexts stocks (Order o) = IsToken o.token
 HasFrameTexts stocks (Agent a) = length a.positions ≡ stocks
-HasFrameTexts stocks (Waiting w) = HasBodyTexts w.body × HasBodyLetter w.body
+HasFrameTexts stocks (Waiting w) = HasBodyTexts w.body
 HasFrameTexts stocks (End branches) = branches < 65536
 
 fits-by : (v w : Wire) → v ≡ held_wire w → stand_all w.kinds w.values ≡ true → HasTexts w → IsInRange v
@@ -284,7 +284,7 @@ frame-fits stocks (Message m) h = feed-fits m h
 frame-fits stocks (Event e) h = (
   fits-by (event_wire (event_with (clipped_event_frame e) [] [])) (event_wire (event_with e [] [])) (event-held e) refl (event-texts e),
   signed-fits e.fee,
-  body-fits e.body h.0 h.1,
+  body-fits e.body h,
 )
 frame-fits stocks (Edit d) h = fits-by (edit_wire (edit_with (clipped_edit_head d) [])) (edit_wire (edit_with d [])) (edit-held d) refl (edit-texts d h)
 frame-fits stocks (Counts c) h = fits-by (counts_wire (clipped_counts c)) (counts_wire c) (counts-held c) refl (counts-texts c h)
@@ -297,6 +297,6 @@ frame-fits stocks (Order o) h = fits-by (order_wire (clipped_order o)) (order_wi
 frame-fits stocks (Agent a) h = agent-fits stocks a h
 frame-fits stocks (Waiting w) h = (
   fits-by (waiting_wire (clipped_waiting_frame w)) (waiting_wire w) (waiting-held w) refl (waiting-texts w),
-  body-fits w.body h.0 h.1,
+  body-fits w.body h,
 )
 frame-fits stocks (End branches) few = end-in branches few

@@ -1,5 +1,5 @@
 -- Messages of the feed and bodies, clipped: they are spelled as before, and are in their ranges where their texts are.
-use Rattle.std.proofs.Common.{◌≡◌, ◌∙◌, ℕ, ◌<◌, true, [], ◌∷◌, refl, sym, ap, subst}
+use Rattle.std.proofs.Common.{◌≡◌, ◌∙◌, ℕ, true, [], ◌∷◌, refl, sym, ap, subst}
 use Rattle.market_types.specs.declared.feed.Feed.{Feed}
 use Rattle.market_types.specs.declared.feed.What.{What}
 use Rattle.market_types.specs.declared.feed.What.TheVariants as what
@@ -18,9 +18,9 @@ use Rattle.itch_codec.specs.Back.{feed_back, feed_of}
 use Rattle.bundle_frames.specs.Layouts.{ask_kinds, quote_kinds}
 use Rattle.bundle_frames.specs.Wires.{body_bytes, letter_of_body, quote_values}
 use Rattle.bundle_reader.specs.Bodies.{HasRanges as HasBodyRanges}
-use Rattle.audit_desk.specs.Fields.{HasBodyTexts, HasTexts}
+use Rattle.market_laws.specs.Texts.{HasBodyTexts, HasTexts}
 use Rattle.audit_desk.proofs.Around.{byte-in}
-use Rattle.audit_desk.proofs.Spellings.{texts-in}
+use Rattle.market_laws.proofs.Spellings.{texts-in}
 use Rattle.audit_desk.specs.Clipped.{clipped_body, clipped_feed, clipped_inbound, clipped_number, clipped_reply, clipped_what}
 use Rattle.audit_desk.proofs.HeldFields.{fields-fit, fields-spelled, held_wire, stand_all, wire-fits, wire-kept, wire-spelled}
 
@@ -93,14 +93,6 @@ reply-fits r h = subst (λ (w : Wire). IsInRange w) (sym (reply-held r)) (wire-f
 
 -- ---- bodies
 
--- the state that a quote tells is a byte
-abbrev pub HasBodyLetter : Body → Type 0
-HasBodyLetter body.Wake = Unit {0}
-HasBodyLetter (body.Order order) = Unit {0}
-HasBodyLetter (body.Answer answer) = Unit {0}
-HasBodyLetter (body.Ask stock) = Unit {0}
-HasBodyLetter (body.Quote quote) = quote.state < 256
-
 pub letter-same : (b : Body) → letter_of_body (clipped_body b) ≡ letter_of_body b
 letter-same body.Wake = refl
 letter-same (body.Order order) = refl
@@ -115,11 +107,11 @@ body-same (body.Answer answer) = ap spelling (reply-held answer) ∙ wire-spelle
 body-same (body.Ask stock) = fields-spelled ask_kinds (number stock ∷ [])
 body-same (body.Quote quote) = fields-spelled quote_kinds (quote_values quote)
 
-pub body-fits : (b : Body) → HasBodyTexts b → HasBodyLetter b → HasBodyRanges (clipped_body b)
-body-fits body.Wake texts letter = tt
-body-fits (body.Order order) texts letter = inbound-fits order texts
-body-fits (body.Answer answer) texts letter = reply-fits answer texts
-body-fits (body.Ask stock) texts letter = fields-fit ask_kinds (number stock ∷ []) refl refl
-body-fits (body.Quote quote) texts letter =
+pub body-fits : (b : Body) → HasBodyTexts b → HasBodyRanges (clipped_body b)
+body-fits body.Wake texts = tt
+body-fits (body.Order order) texts = inbound-fits order texts
+body-fits (body.Answer answer) texts = reply-fits answer texts
+body-fits (body.Ask stock) texts = fields-fit ask_kinds (number stock ∷ []) refl refl
+body-fits (body.Quote quote) state =
     fields-fit quote_kinds (quote_values quote) refl
-    (texts-in quote_kinds (quote_values quote) (tt, (byte-in quote.state letter, (tt, (tt, (tt, (tt, (tt, tt))))))))
+    (texts-in quote_kinds (quote_values quote) (tt, (byte-in quote.state state, (tt, (tt, (tt, (tt, (tt, tt))))))))

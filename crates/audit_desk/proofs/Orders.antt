@@ -20,9 +20,9 @@ use Rattle.ouch_codec.specs.Inbound.{inbound_layout, inbound_wire}
 use Rattle.ouch_codec.specs.InboundBack.{cancel_in, enter_on, inbound_of}
 use Rattle.ouch_codec.specs.Layouts.{cancel_kinds, enter_kinds}
 use Rattle.study_rules.specs.EditRules.{message_in, order_in}
-use Rattle.audit_desk.specs.Fields.{HasTexts}
-use Rattle.audit_desk.proofs.Spellings.{IsLetter, cancel-texts, enter-texts}
-use Rattle.audit_desk.proofs.Texts.{Each}
+use Rattle.market_laws.specs.Texts.{HasTexts}
+use Rattle.market_laws.proofs.Spellings.{IsLetter, cancel-texts, enter-texts}
+use Rattle.market_laws.proofs.Texts.{Each}
 
 each-in : (ks : List Kind) (vs : List FieldValue) → are_in_range ks vs ≡ true → Each ks vs
 each-in [] [] h = tt

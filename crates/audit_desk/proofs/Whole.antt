@@ -28,7 +28,7 @@ use Rattle.audit_desk.specs.Ranges.{IsEventInRange, IsInRange}
 use Rattle.audit_desk.proofs.Around.{branch-in, close-in, end-in, header-in, messages-in, opening-in}
 use Rattle.audit_desk.proofs.Branches.{FeedsOf, StatesOf, branches-are}
 use Rattle.audit_desk.proofs.Lists.{length-back}
-use Rattle.audit_desk.proofs.Marks.{IsMarkedInRange, marked-full}
+use Rattle.audit_desk.proofs.Marked.{IsMarkedInRange, MarkedOf}
 use Rattle.audit_desk.proofs.Splits.{same-frames}
 use Rattle.audit_desk.proofs.Widths.{frame-short}
 
@@ -78,13 +78,13 @@ frame-in c b is names l =
       name,
     )
 
-branch-ranges : (c : CourseTold) (b : ℕ) → IsCourse c → IsInRange c → StatesOf c → b < length c.plan.branches → All (InCourse c) (branch_list b (branch_back c b))
-branch-ranges c b is ranges states l =
+branch-ranges : (c : CourseTold) (b : ℕ) → IsCourse c → IsInRange c → MarkedOf c → StatesOf c → b < length c.plan.branches → All (InCourse c) (branch_list b (branch_back c b))
+branch-ranges c b is ranges marked states l =
     let o = c.opening in
     let r = full_run o c.plan b in
     let run = ranges.runs b l in
     let first = frame.Branch (record { branch = b; parent = parent_written c b; stop = stop_written c b; name = (branch_at c.plan.branches b).name }) in
-    let entries : All (InCourse c) (flat_map entry_list (as_read r.entries)) = subst (λ (fs : List Frame). All (InCourse c) fs) (sym (same-frames r.entries)) (entries-in (Some (length o.stocks)) r.entries (marked-full c b o.limit is l) run.events) in
+    let entries : All (InCourse c) (flat_map entry_list (as_read r.entries)) = subst (λ (fs : List Frame). All (InCourse c) fs) (sym (same-frames r.entries)) (entries-in (Some (length o.stocks)) r.entries (marked b l) run.events) in
     let time : r.state.time < 281474976710656 = omega (arith, (states b o.limit l).close, is.opening.close) in
     let last = frame.Message (system_event r.state.time 67) in
     let closing = closing_list (closing_at o r.state) in
@@ -93,17 +93,17 @@ branch-ranges c b is ranges states l =
     (All-append (InCourse c) (feed_list (opening_feed o)) (flat_map entry_list (as_read r.entries)) (opening-in (Some (length o.stocks)) o is.opening) entries)
     (All-cons (InCourse c) last closing (close-in r.state.time time) run.closing))
 
-branches-ranges : (c : CourseTold) (n : ℕ) → IsCourse c → IsInRange c → StatesOf c → n ≤ length c.plan.branches → All (InCourse c) (branches_list 0 (branches_back c n))
-branches-ranges c zero is ranges states le = All-nil (InCourse c)
-branches-ranges c (suc n) is ranges states le =
+branches-ranges : (c : CourseTold) (n : ℕ) → IsCourse c → IsInRange c → MarkedOf c → StatesOf c → n ≤ length c.plan.branches → All (InCourse c) (branches_list 0 (branches_back c n))
+branches-ranges c zero is ranges marked states le = All-nil (InCourse c)
+branches-ranges c (suc n) is ranges marked states le =
     let at : 0 + length (branches_back c n) ≡ n = omega (arith, length-back c n) in
     let list = list-push 0 (branches_back c n) (branch_back c n) ∙ ap (λ k. branches_list 0 (branches_back c n) ++ branch_list k (branch_back c n)) at in
     subst (λ (fs : List Frame). All (InCourse c) fs) (sym list)
-    (All-append (InCourse c) (branches_list 0 (branches_back c n)) (branch_list n (branch_back c n)) (branches-ranges c n is ranges states (omega (arith, le)))
-    (branch-ranges c n is ranges states (omega (arith, le))))
+    (All-append (InCourse c) (branches_list 0 (branches_back c n)) (branch_list n (branch_back c n)) (branches-ranges c n is ranges marked states (omega (arith, le)))
+    (branch-ranges c n is ranges marked states (omega (arith, le))))
 
-all-ranges : (c : CourseTold) → IsCourse c → IsInRange c → StatesOf c → All (InCourse c) (bundle_list (bundle_back c))
-all-ranges c is ranges states =
+all-ranges : (c : CourseTold) → IsCourse c → IsInRange c → MarkedOf c → StatesOf c → All (InCourse c) (bundle_list (bundle_back c))
+all-ranges c is ranges marked states =
     let n = length c.plan.branches in
     let agents = length c.opening.traders + 1 in
     let stocks = length c.opening.stocks in
@@ -112,12 +112,12 @@ all-ranges c is ranges states =
     let last = frame.End (length (branches_back c n)) in
     All-cons (InCourse c) first (branches_list 0 (branches_back c n) ++ last ∷ [])
     (header-in agents stocks (length (branches_back c n)) (omega (arith, few-traders c.opening is.opening)) (omega (arith, is.opening.market.few)) few)
-    (All-append (InCourse c) (branches_list 0 (branches_back c n)) (last ∷ []) (branches-ranges c n is ranges states (omega arith))
+    (All-append (InCourse c) (branches_list 0 (branches_back c n)) (last ∷ []) (branches-ranges c n is ranges marked states (omega arith))
     (All-cons (InCourse c) last [] (end-in (length (branches_back c n)) few) (All-nil (InCourse c))))
 
-pub bundle-is : (c : CourseTold) → IsCourse c → IsInRange c → FeedsOf c → StatesOf c → IsBundle (bundle_back c)
-bundle-is c is ranges feeds states =
-    let all = all-ranges c is ranges states in
+pub bundle-is : (c : CourseTold) → IsCourse c → IsInRange c → MarkedOf c → FeedsOf c → StatesOf c → IsBundle (bundle_back c)
+bundle-is c is ranges marked feeds states =
+    let all = all-ranges c is ranges marked states in
     record {
       branches = branches-are c (length c.plan.branches) feeds states (omega arith);
       ranges = all;

@@ -1,8 +1,6 @@
 pub mod AsRead
 pub mod Back
-pub mod Fields
 pub mod Ranges
-pub mod Spelled
 pub mod TripWorked
 pub mod AcceptedBack
 pub mod Audited

@@ -5,11 +5,12 @@ ghost use Rattle.toml.specs.View.{table_view};
 ghost use Rattle.study_market.specs.declared.early_refusal.Refusal.{Refusal};
 ghost use Rattle.study_rules.specs.Accepted.{StudyTold, study_of, study_told};
 ghost use Rattle.kernel_copy.specs.Segmentwise.{distinct};
-ghost use Rattle.trace_bundle.specs.Ran.{IsListedRunOf};
+ghost use Rattle.trace_bundle.specs.Ran.{IsFramedRunOf};
 ghost use Rattle.bundle_reader.specs.Reads.{Gives};
 ghost use Rattle.bundle_reader.specs.Told.{bundle_told};
 ghost use Rattle.audit_desk.specs.Back.{bundle_back};
 ghost use Rattle.audit_desk.specs.AcceptedBack.{IsBackOf};
+ghost use Rattle.audit_desk.specs.Clipped.{clipped};
 
 use crate::accepted_laws::accepted_messages_are_spelled;
 use branch_workers::{Setup, work};
@@ -25,8 +26,8 @@ use study_rules::{AcceptError, Study, accept};
 use trace_bundle::RunOutcomes;
 use trace_bundle::laws::outcomes_are_a_run;
 
-/// Writes the bundle of an accepted study, from a run that holds the entries themselves, and reads it: the branches' full
-/// runs, their feed split as reading splits it.
+/// Writes the bundle of an accepted study, from a run of its segments, and reads it: the branches' full runs, their feed split
+/// as reading splits it, each number as its field holds it.
 ///
 /// # Errors
 /// Want of memory alone.
@@ -38,8 +39,8 @@ pub fn accepted_round_trip<W: RunOutcomes>(
     ran: &W,
 ) -> Result<Bundle, BundleError>
     requires accepted { study_of (table_view raw.now.table) (option_map (λ text. text.now) series) ≡ Ok (study_told study.now) }
-    requires ran { IsListedRunOf study.now.course.value (W.count ran.now) (W.kept_of ran.now) (W.closing_of ran.now) }
-    ensures { Gives (bundle_back study.now.course.value) result }
+    requires ran { IsFramedRunOf study.now.course.value (W.count ran.now) (W.kept_of ran.now) (W.closing_of ran.now) }
+    ensures { Gives (clipped (bundle_back study.now.course.value)) result }
 {
     let _ = raw;
     let _ = series;
@@ -48,7 +49,7 @@ pub fn accepted_round_trip<W: RunOutcomes>(
 }
 
 /// Accepts a study, has its segments run by one worker, writes its bundle and reads it: the branches' full runs, their feed
-/// split as reading splits it. It may wait.
+/// split as reading splits it, each number as its field holds it. It may wait.
 ///
 /// # Errors
 /// The first broken rule of the study, and no step was counted; or want of memory. The counter rises by the events of all
@@ -73,7 +74,7 @@ pub fn run_and_read<R: Threads + Wait + Sync, L: Ledger + Send>(
     let setup = Setup {
         stride: 1,
         places: 0,
-        keep: Keep::Entries,
+        keep: Keep::Frames,
         workers: 1,
     };
     let Ok(worked) = work(rt, alloc, &study.course, setup, &OpenGate, steps) else {

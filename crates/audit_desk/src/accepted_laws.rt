@@ -3,7 +3,7 @@
 ghost use Rattle.std.specs.Prelude.{◌≡◌, ℕ, List, Option, Ok};
 ghost use Rattle.toml.specs.Data.{Members};
 ghost use Rattle.study_rules.specs.Accepted.{StudyTold, study_of};
-ghost use Rattle.audit_desk.specs.Spelled.{AreMessagesSpelled};
+ghost use Rattle.market_laws.specs.Texts.{AreMessagesSpelled};
 
 /// The orders that the edits of an accepted study inject are ones that a message can hold: each is what an order's bytes spell.
 pub fn accepted_messages_are_spelled()

@@ -7,7 +7,7 @@ ghost use Rattle.trace_bundle.specs.Bundle.{bundle_of};
 ghost use Rattle.bundle_reader.specs.Told.{BundleTold};
 ghost use Rattle.bundle_reader.specs.Reading.{read, reading_of};
 ghost use Rattle.audit_desk.specs.Back.{bundle_back};
-ghost use Rattle.audit_desk.specs.Spelled.{AreMessagesSpelled};
+ghost use Rattle.market_laws.specs.Texts.{AreMessagesSpelled};
 ghost use Rattle.study_rules.specs.Accepted.{StudyTold, study_of};
 ghost use Rattle.audit_desk.specs.Agrees.{Agrees};
 ghost use Rattle.audit_desk.specs.Audited.{audit_of};

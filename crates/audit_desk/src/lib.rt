@@ -7,7 +7,6 @@ pub mod accepted_laws;
 mod audited;
 mod branch;
 mod failing;
-mod fields;
 mod gathered;
 pub mod honest;
 pub mod laws;
@@ -16,9 +15,6 @@ pub mod readable;
 mod reading;
 pub mod trip_laws;
 pub mod trip_worked;
-mod typed_closing;
-mod typed_entries;
-mod typed_runs;
 pub mod worked;
 mod writing;
 

@@ -5,6 +5,7 @@ ghost use Rattle.toml.specs.Data.{Members};
 ghost use Rattle.market_types.specs.declared.feed.Feed.{Feed};
 ghost use Rattle.wire_fields.specs.Wire.{IsInRange};
 ghost use Rattle.itch_codec.specs.Messages.{feed_wire};
+ghost use Rattle.branch_tree.specs.Names.{IsNameLength};
 ghost use Rattle.bundle_frames.specs.declared.closing.Closing.{Closing};
 ghost use Rattle.kernel_copy.specs.Courses.{CourseTold, IsCourse};
 ghost use Rattle.feed_rebuild.specs.Fold.{Told, fold, told_what};
@@ -16,17 +17,18 @@ ghost use Rattle.bundle_reader.specs.Reading.{read, reading_of};
 ghost use Rattle.study_rules.specs.Accepted.{StudyTold, study_of};
 ghost use Rattle.audit_desk.specs.Back.{bundle_back};
 ghost use Rattle.audit_desk.specs.Ranges.{IsInRange as IsCourseInRange};
-ghost use Rattle.audit_desk.specs.Spelled.{AreMessagesSpelled};
+ghost use Rattle.market_laws.specs.Texts.{AreMessagesSpelled};
 ghost use Rattle.audit_desk.specs.Clipped.{AreNamed, IsComparable, TellsBooks, clipped, clipped_closing, clipped_feed};
 ghost use Rattle.audit_desk.specs.ClippedWorked.{comes_at, one_branch};
 
 use crate::accepted_laws::accepted_messages_are_spelled;
 use crate::trip_laws::bundles_come_back;
-use crate::typed_runs::names_fit;
+use branch_tree::Branch;
 use bundle_reader::laws::bytes_are_read_as_told;
 use kernel_copy::Course;
 use kernel_copy::closing_laws::agents_have_all_positions;
 use kernel_copy::laws::courses_stay_in_range;
+use market_laws::fields::{edits_are_marked, feeds_stay_in_range, texts_stay_in_range};
 
 /// A bundle is written as the same bytes where each number is taken as its field holds it.
 pub fn fields_hold_last_bytes()
@@ -54,8 +56,20 @@ pub fn bundles_always_read()
     fields_hold_last_bytes();
     courses_stay_in_range();
     agents_have_all_positions();
+    feeds_stay_in_range();
+    edits_are_marked();
+    texts_stay_in_range();
     bundles_come_back();
     bytes_are_read_as_told();
+}
+
+// The names of branches.
+fn names_fit(branches: &[Branch])
+    ensures { All (λ b. IsNameLength (length b.name)) branches.now }
+{
+    for i in 0..branches.len() {
+        let _ = branches[i].name.len();
+    }
 }
 
 /// Each branch of a course has a name, by the type of names.

@@ -2,27 +2,13 @@
 
 ghost use Rattle.std.specs.Prelude.{◌≡◌, ℕ, All};
 ghost use Rattle.kernel_copy.specs.Courses.{CourseTold, IsCourse};
-ghost use Rattle.kernel_copy.specs.Full.{full};
 ghost use Rattle.trace_bundle.specs.Bundle.{bundle_of};
-ghost use Rattle.bundle_reader.specs.Bundle.{HasFeed, IsBranch, IsBundle, IsSplit, bundle_bytes};
+ghost use Rattle.bundle_reader.specs.Bundle.{IsBranch, IsBundle, IsSplit, bundle_bytes};
 ghost use Rattle.audit_desk.specs.Back.{branch_back, bundle_back};
-ghost use Rattle.audit_desk.specs.Fields.{HasEventTexts};
 ghost use Rattle.audit_desk.specs.Ranges.{IsInRange};
-ghost use Rattle.audit_desk.specs.Spelled.{AreMessagesSpelled};
 
 use kernel_copy::laws::courses_stay_in_range;
-
-/// Before each event of a run stand trading actions, after it messages on orders; a halt or a resume of a branch has at most
-/// the one trading action of its own time, and any other edit has no feed.
-pub fn feeds_are_of_their_kinds()
-    ensures { (c : CourseTold) (b e : ℕ) → All HasFeed (full c.opening c.plan b e).entries }
-{}
-
-/// The texts of each event's order or reply are in their ranges, where those of the orders are that the branches' edits inject:
-/// traders send symbols of the opening's stocks and tokens of their own, and the exchange replies with what it was sent.
-pub fn texts_stay_in_range()
-    ensures { (c : CourseTold) (b e : ℕ) → IsCourse c → AreMessagesSpelled c → All HasEventTexts (full c.opening c.plan b e).entries }
-{}
+use market_laws::fields::{edits_are_marked, feeds_are_of_their_kinds, feeds_stay_in_range};
 
 /// What is written of a course is the bytes of what tells the branches' full runs with their feed as reading splits it. That is
 /// a bundle, which reading answers, where each name has 1 to 32 bytes and the fields of events, of the messages behind them and
@@ -34,5 +20,7 @@ pub fn bundles_come_back()
     ensures bundle { (c : CourseTold) → IsCourse c → IsInRange c → IsBundle (bundle_back c) }
 {
     feeds_are_of_their_kinds();
+    feeds_stay_in_range();
+    edits_are_marked();
     courses_stay_in_range();
 }

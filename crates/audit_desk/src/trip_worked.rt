@@ -3,7 +3,7 @@
 ghost use Rattle.std.specs.Prelude.{◌≡◌, codes, replicate};
 ghost use Rattle.audit_desk.specs.AsRead.{as_read};
 ghost use Rattle.audit_desk.specs.Ranges.{IsInRange};
-ghost use Rattle.audit_desk.specs.Spelled.{AreMessagesSpelled, HasMessageTexts};
+ghost use Rattle.market_laws.specs.Texts.{AreMessagesSpelled, HasMessageTexts};
 ghost use Rattle.audit_desk.specs.TripWorked.{canceling, made, read};
 ghost use Rattle.trace_bundle.specs.Worked.{quiet_course};
 

@@ -19,3 +19,14 @@ pub mod Receivers
 pub mod Segments
 pub mod SmallCourses
 pub mod Walking
+pub mod EachRun
+pub mod Texts
+pub mod Spellings
+pub mod Replies
+pub mod Tokens
+pub mod Senders
+pub mod Reactions
+pub mod TextRuns
+pub mod FeedKinds
+pub mod FeedRanges
+pub mod Marks

@@ -1,6 +1,6 @@
 -- A run as its exchange met it, from the opening through events, edits and stops.
-use Rattle.std.proofs.Common.{◌≡◌, ◌≢◌, ℕ, ◌+◌, ◌-◌, ◌<◌, ◌≤◌, zero, suc, true, false, inl, inr, List, [], ◌∷◌, ◌++◌, length, All, refl, sym, subst, arith, slice_index}
-use Rattle.std.specs.Prelude.{nat_le, nat_lt, if◌then◌else◌}
+use Rattle.std.proofs.Common.{◌≡◌, ◌≢◌, ℕ, ◌+◌, ◌<◌, ◌≤◌, true, inl, inr, List, [], ◌∷◌, ◌++◌, length, All, refl, sym, subst, arith, slice_index}
+use Rattle.std.specs.Prelude.{nat_lt}
 use Rattle.std.proofs.lemmas.Bool.{cases_eq, cases_lt, ne_eqb}
 use Rattle.std.proofs.lemmas.Bool.Decides.{nat_tests}
 use Rattle.std.proofs.lemmas.List.{flat_map_more, get_or_past}
@@ -19,9 +19,7 @@ use Rattle.exchange_agent.proofs.Ends.{BookLaws}
 use Rattle.exchange_agent.proofs.Steps.{IsKept}
 use Rattle.event_queue.proofs.Kept.{all-joined, all-least, all-without}
 use Rattle.branch_tree.specs.declared.branch.Branch.{Branch}
-use Rattle.branch_tree.specs.declared.stop.Stop.{Stop}
-use Rattle.branch_tree.specs.declared.stop.Stop.TheVariants.{At, When}
-use Rattle.branch_tree.specs.Plan.{no_branch, branch_at, stop_at}
+use Rattle.branch_tree.specs.Plan.{no_branch, branch_at}
 use Rattle.market_floor.specs.declared.opening.Opening.{Opening}
 use Rattle.market_floor.specs.Edited.{edited_floor}
 use Rattle.market_floor.specs.Floor.{FloorState, party_at}
@@ -29,23 +27,21 @@ use Rattle.market_floor.specs.Opening.{IsOpening}
 use Rattle.market_floor.specs.Reaction.{Reaction, decided_by, market_reaction, trader_reaction}
 use Rattle.market_floor.specs.Ruled.{ruled}
 use Rattle.market_floor.proofs.Reactions.{to-exchange, to-trader}
-use Rattle.kernel_core.specs.Edited.{IsEditOf, edited_from, edited_one, mail_after, mark_of}
+use Rattle.kernel_core.specs.Edited.{IsEditOf, edited_one, mail_after, mark_of}
 use Rattle.kernel_core.specs.Open.{opened}
 use Rattle.kernel_core.specs.Post.{Post, nothing_waits, taken}
 use Rattle.kernel_core.specs.Send.{order_at}
 use Rattle.kernel_core.specs.State.{State}
-use Rattle.kernel_core.specs.Step.{Happened, delivered_with, end_of, event_back, event_delivered, event_of, in_force}
-use Rattle.kernel_core.specs.Until.{Run, advanced, advanced_by, until}
+use Rattle.kernel_core.specs.Step.{Happened, delivered_with, event_back, event_delivered, event_of, in_force}
+use Rattle.kernel_core.specs.Until.{Run}
 use Rattle.kernel_core.proofs.Posts.{all-joins}
-use Rattle.kernel_core.proofs.Runs.{advanced_ended, advanced_going, event-busy, event-free}
-use Rattle.kernel_core.proofs.Stops.{end_cases, next-message}
-use Rattle.kernel_core.proofs.Times.{time-some}
+use Rattle.kernel_core.proofs.Runs.{event-busy, event-free}
 use Rattle.kernel_copy.specs.Courses.{AreEdits, CourseTold, IsCourse}
-use Rattle.kernel_copy.specs.Full.{edited_by, forks_of, full, full_along, opening_run}
-use Rattle.kernel_copy.specs.UntilStop.{until_stop}
+use Rattle.kernel_copy.specs.Full.{forks_of, full, opening_run}
 use Rattle.kernel_copy.proofs.Opened.{opened-stocks, opened-traders}
 use Rattle.feed_rebuild.specs.Feeds.{entries_feed, entry_feed}
 use Rattle.market_laws.specs.History.{first_exchange}
+use Rattle.market_laws.proofs.EachRun.{AllowsAll, AllowsFrom, AreKept, allowed, kept-along}
 use Rattle.market_laws.proofs.Acts.{Leads, leads-more, leads-on, meets-change, meets-due, meets-message, stays}
 use Rattle.market_laws.proofs.Keeping.{kept-first, kept-run}
 use Rattle.market_laws.proofs.Mail.{IsMail, mail-sent, mail-woken, replies-posted, sendings-posted}
@@ -136,7 +132,7 @@ gone laws o s m opening mine all kept = elim (cases_lt m.time (slice_index s.own
   ])
 ]
 
--- ---- runs
+-- ---- one entry more
 
 -- the feed of one entry more
 feed-more : (xs : List EntryTold) (x : EntryTold) → entries_feed (xs ++ x ∷ []) ≡ entries_feed xs ++ entry_feed x
@@ -155,29 +151,6 @@ walked-event o r h w g = record {
       (led-more o r.state.floor.exchange h.state.floor.exchange r.entries (event h.entry) r.state.events 1 w.led g.led);
   mail = g.mail;
 }
-
-walked-advanced : BookLaws → (o : Opening) (r : Run) → IsOpening o → IsWalked o r → IsWalked o (advanced o r)
-walked-advanced laws o r opening h = elim (end_cases (end_of o r.state)) [
-  | inl going ↦
-      let m = next-message o r.state going in
-      let mine = all-least (IsMail (length o.traders)) r.state.post.waiting m.0 (sym m.1) h.mail in
-      subst (λ (q : Run). IsWalked o q) (sym (advanced_going o r m.0 going m.1))
-      (walked-event o r (event_of o r.state m.0) h (gone laws o r.state m.0 opening mine h.mail (kept-walked laws o r h)))
-  | inr over ↦ subst (λ (q : Run). IsWalked o q) (sym (advanced_ended o r over.0 over.1)) h
-]
-
-walked-by : BookLaws → (n : ℕ) (o : Opening) (r : Run) → IsOpening o → IsWalked o r → IsWalked o (advanced_by n o r)
-walked-by laws zero o r opening h = h
-walked-by laws (suc n) o r opening h = walked-by laws n o (advanced o r) opening (walked-advanced laws o r opening h)
-
-walked-until : BookLaws → (o : Opening) (n : ℕ) (r : Run) → IsOpening o → IsWalked o r → IsWalked o (until o n r)
-walked-until laws o n r opening h = walked-by laws (n - r.state.events) o r opening h
-
-walked-stop : BookLaws → (o : Opening) (s : Stop) (r : Run) → IsOpening o → IsWalked o r → IsWalked o (until_stop o s r)
-walked-stop laws o (At n) r opening h = walked-until laws o n r opening h
-walked-stop laws o (When w) r opening h =
-    let p = time-some (o.limit - r.state.events) o w r in
-    subst (λ (q : Run). IsWalked o q) (sym p.1) (walked-by laws p.0 o r opening h)
 
 -- ---- edits
 
@@ -233,10 +206,6 @@ walked-edit o b i e r fit h =
 abbrev IsFit : Opening → Edit → Type 0
 IsFit o e = IsEditOf (opened o) e
 
-walked-edits : (o : Opening) (b i : ℕ) (es : List Edit) (r : Run) → All (IsFit o) es → IsWalked o r → IsWalked o (edited_from b i es r)
-walked-edits o b i [] r fit h = h
-walked-edits o b i (e ∷ es) r fit h = walked-edits o b (i + 1) es (edited_one b i e r) (All-tail (IsFit o) e es fit) (walked-edit o b i e r (All-head (IsFit o) e es fit) h)
-
 abbrev HasEdits : Opening → Branch → Type 0
 HasEdits o b = AreEdits o b.edits
 
@@ -246,16 +215,22 @@ branch-edits o bs b h = elim (cases_lt b (length bs)) [
   | inr past ↦ subst (λ (x : Branch). All (IsFit o) x.edits) (sym (get_or_past bs b no_branch past)) (All-nil (IsFit o))
 ]
 
--- ---- branches
+-- ---- runs
 
-walked-along : BookLaws → (o : Opening) (bs : List Branch) (n : ℕ) (cs : List ℕ) (r : Run) → IsOpening o → All (HasEdits o) bs → IsWalked o r → IsWalked o (full_along o bs n cs r)
-walked-along laws o bs n [] r opening each h = walked-until laws o n r opening h
-walked-along laws o bs n (b ∷ cs) r opening each h =
-    let t = until_stop o (stop_at bs b) r in
-    let stopped = walked-stop laws o (stop_at bs b) r opening h in
-    let more = walked-along laws o bs n cs (edited_by bs b t) opening each (walked-edits o b 0 (branch_at bs b).edits t (branch-edits o bs b each) stopped) in
-    let ends = walked-until laws o n r opening h in
-    elim (nat_le t.state.events n) as (λ x. IsWalked o (if x then full_along o bs n cs (edited_by bs b t) else until o n r)) [ true ↦ more | false ↦ ends ]
+abbrev Fits : Opening → ℕ → ℕ → Edit → Type 0
+Fits o b i e = IsFit o e
+
+each-kept : BookLaws → (o : Opening) → IsOpening o → AreKept o (IsWalked o) (Fits o)
+each-kept laws o opening = record {
+  event = λ r m going next h.
+      let mine = all-least (IsMail (length o.traders)) r.state.post.waiting m next h.mail in
+      walked-event o r (event_of o r.state m) h (gone laws o r.state m opening mine h.mail (kept-walked laws o r h));
+  edit = λ b i e r fit h. walked-edit o b i e r fit h;
+}
+
+all-fit : (o : Opening) (b i : ℕ) (es : List Edit) → All (IsFit o) es → AllowsFrom (Fits o) b i es
+all-fit o b i [] h = tt
+all-fit o b i (e ∷ es) h = (All-head (IsFit o) e es h, all-fit o b (i + 1) es (All-tail (IsFit o) e es h))
 
 walked-opening : (o : Opening) → IsWalked o (opening_run o)
 walked-opening o = record {
@@ -267,4 +242,7 @@ walked-opening o = record {
 pub walked-full : BookLaws → (c : CourseTold) (b e : ℕ) → IsCourse c → IsWalked c.opening (full c.opening c.plan b e)
 unfolding full
 walked-full laws c b e h =
-    walked-along laws c.opening c.plan.branches e (forks_of c.plan.branches b) (opening_run c.opening) h.opening h.edits (walked-opening c.opening)
+    let o = c.opening in
+    let bs = c.plan.branches in
+    kept-along o (IsWalked o) (Fits o) bs e (forks_of bs b) (opening_run o) (each-kept laws o h.opening)
+    (allowed (AllowsAll (Fits o) bs) (forks_of bs b) (λ k. all-fit o k 0 (branch_at bs k).edits (branch-edits o bs k h.edits))) (walked-opening o)

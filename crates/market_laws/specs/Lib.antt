@@ -8,3 +8,5 @@ pub mod ExchangeWorked
 pub mod History
 pub mod Market
 pub mod Worked
+pub mod Fields
+pub mod Texts

@@ -1,6 +1,6 @@
 use Rattle.std.proofs.Common.{sym, subst}
 use Rattle.kernel_copy.specs.Courses.{CourseTold}
-use Rattle.audit_desk.specs.Spelled.{AreMessagesSpelled}
+use Rattle.market_laws.specs.Texts.{AreMessagesSpelled}
 use Rattle.audit_desk.proofs.accepted.accepted_round_trip.Goals as goal
 
 pub round_trip-requires-clause-spelled : goal.round_trip-requires-clause-spelled

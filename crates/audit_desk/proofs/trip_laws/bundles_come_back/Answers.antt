@@ -1,6 +1,7 @@
 use Rattle.std.proofs.Common.{length, arith}
 use Rattle.audit_desk.proofs.Branches.{branches-are}
 use Rattle.audit_desk.proofs.Lists.{same-bundle}
+use Rattle.audit_desk.proofs.Marked.{are-marked}
 use Rattle.audit_desk.proofs.Splits.{split-read}
 use Rattle.audit_desk.proofs.Whole.{bundle-is}
 use Rattle.kernel_copy.specs.Full.{full_run}
@@ -18,4 +19,4 @@ returns-clause-branches g c is =
 
 pub returns-clause-bundle : goal.returns-clause-bundle
 returns-clause-bundle g c is ranges =
-    bundle-is c is ranges (g.feeds_are_of_their_kinds.ensures c) (λ b e within. g.courses_stay_in_range.ensures.states c b e is within)
+    bundle-is c is ranges (are-marked c is g.feeds_stay_in_range.ensures g.edits_are_marked.ensures) (g.feeds_are_of_their_kinds.ensures c) (λ b e within. g.courses_stay_in_range.ensures.states c b e is within)

@@ -25,7 +25,7 @@ use Rattle.bundle_reader.specs.declared.frame.Frame.{Frame}
 use Rattle.bundle_reader.specs.declared.frame.Frame.TheVariants as frame
 use Rattle.bundle_reader.specs.Bundle.{closing_list}
 use Rattle.audit_desk.specs.Ranges.{IsEventInRange, IsRunInRange}
-use Rattle.audit_desk.specs.Spelled.{HasMessageTexts}
+use Rattle.market_laws.specs.Texts.{HasMessageTexts}
 use Rattle.audit_desk.proofs.trip_worked.a_quiet_course.Goals as goal
 
 abbrev IsNamed : Branch → Type 0

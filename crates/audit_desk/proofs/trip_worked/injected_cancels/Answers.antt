@@ -1,7 +1,7 @@
 use Rattle.std.proofs.Common.{codes, replicate, refl}
 use Rattle.wire_fields.specs.Kinds.{is_good}
 use Rattle.wire_fields.specs.Values.{is_in_range}
-use Rattle.audit_desk.specs.Spelled.{HasMessageTexts}
+use Rattle.market_laws.specs.Texts.{HasMessageTexts}
 use Rattle.audit_desk.specs.TripWorked.{canceling}
 use Rattle.audit_desk.proofs.trip_worked.injected_cancels.Goals as goal
 

@@ -1,6 +1,0 @@
-use Rattle.std.proofs.Common.{arith}
-use Rattle.audit_desk.proofs.Texts.{number-in}
-use Rattle.audit_desk.proofs.fields.four.Goals as goal
-
-pub returns : goal.returns
-returns c = number-in 4 c.args.n (omega arith)

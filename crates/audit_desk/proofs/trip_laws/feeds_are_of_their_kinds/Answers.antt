@@ -1,5 +1,0 @@
-use Rattle.audit_desk.proofs.FeedKinds.{feed-full}
-use Rattle.audit_desk.proofs.trip_laws.feeds_are_of_their_kinds.Goals as goal
-
-pub returns : goal.returns
-returns g = λ c b e. feed-full c.opening c.plan b e
