@@ -28,7 +28,7 @@ abbrev pub is_possible : CourseTold → ShelfPlan → Key → Bool
 is_possible c plan k = is_in k plan.forks || (is_some (place_of plan k) && has_state c k.segment k.event)
 
 -- Each grid key that has a place has it alone and lies within its segment's run, or no grid key has a place.
-pub IsAmple : CourseTold → ℕ → ℕ → Type 0
+abbrev pub IsAmple : CourseTold → ℕ → ℕ → Type 0
 IsAmple c stride places = (places ≡ 0) ⊎ ((length (grid_keys c.plan stride) ≤ places)
     × ((k : Key) → is_in k (grid_keys c.plan stride) ≡ true → is_behind c k.segment k.event ≡ false))
 
