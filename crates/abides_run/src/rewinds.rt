@@ -23,7 +23,7 @@ use crate::found::Simulation;
 use crate::send::{ToSink, send, sent_status};
 use crate::simulate::simulate;
 use crate::status::Status;
-use branch_workers::{Keep, Setup};
+use branch_workers::Keep;
 use checkpoint_shelf::ClosedShelf;
 use command_words::Mark;
 use kernel_copy::laws::courses_stay_in_range;
@@ -227,13 +227,7 @@ pub fn simulate_kept<R: Threads + Wait + Sync, G: Gate + Sync, D: Ledger + Send>
     sure_states_are_held();
     rewinds_after_work();
     let course = &simulation.study.course;
-    let setup = Setup {
-        stride: simulation.study.stride,
-        places: simulation.places,
-        keep: Keep::Nothing,
-        workers: simulation.workers,
-    };
-    let Ok(worked) = simulate(rt, alloc, course, setup, gate, steps) else {
+    let Ok(worked) = simulate(rt, alloc, simulation, Keep::Nothing, gate, steps) else {
         return Err(Memory);
     };
     let Ok(lasts) = last_events(alloc, course, &worked.outcomes) else {
