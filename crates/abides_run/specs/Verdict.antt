@@ -33,8 +33,8 @@ use Rattle.abides_run.specs.Sessions.{act_word, bad_act}
 use Rattle.abides_run.specs.Output.{Probes, Due, bundled, counted, compared, rewound, crossed, audited, carried_out, written, simulated, allowed, most_for, study_events, RoseFor}
 
 -- That bytes are no bundle is told with the number of the reason and its place, that a script or an act is refused with the act's
--- number. That an event isn't there is told with the last
--- event of its branch, the study, and how many steps may have been made besides those of the study's segments.
+-- number. That an event isn't there is told with the last event of its branch, the study, and how many steps may have been made
+-- besides those of the study's segments.
 pub data Verdict : Type 0 where
   usage : Verdict
   no_file : List ℕ → Verdict

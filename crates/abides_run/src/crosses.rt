@@ -157,9 +157,11 @@ fn reach_and_cross<R: Threads + Wait + Sync, O: Sink, G: Gate + Sync, D: Ledger 
     requires orders { AreFiled question.now.orders.now }
     requires steps { steps.old ≤ 2 ^ 63 }
     ensures { let asked = question.now in let study = study_told simulation.now.study in
-        (reads : ℕ) (probes : Probes) (arguments : List (List ℕ)) → IsAmong asked.word.now arguments → Finished
-        (verdict_on_late asked.word.now asked.target asked.stock asked.orders.now simulation.now.places
-        study (past_of (lasts_of study.course) (asked.target ∷ [])))
+        let past = past_of (lasts_of study.course) (asked.target ∷ []) in
+        let places = simulation.now.places in
+        (reads : ℕ) (probes : Probes) (arguments : List (List ℕ)) →
+        IsAmong asked.word.now arguments → Finished
+        (verdict_on_late asked.word.now asked.target asked.stock asked.orders.now places study past)
         probes
         arguments
         (record { reads = reads; writes = O.faults out.old; taken = O.taken out.old; steps = steps.old })

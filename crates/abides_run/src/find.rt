@@ -125,7 +125,8 @@ fn tables(alloc: Global, bytes: &[u8]) -> Result<RawStudy, Ending>
 fn accept_study(alloc: Global, raw: &RawStudy, series: Option<&[u8]>) -> Result<Study, Ending>
     ensures stride { IfOk result (λ s. IsStride s.stride) }
     ensures searched { (next : Files → StudyTold → Ahead) (library : LibraryTold) → Searched
-        (λ files. judged (next files) (study_of (table_view raw.now.table) (option_map (λ text. text.now) series.entry)))
+        (λ files. judged (next files)
+        (study_of (table_view raw.now.table) (option_map (λ text. text.now) series.entry)))
         (λ files s. next files (study_told s))
         [] library library result }
 {
@@ -345,8 +346,10 @@ pub fn find_asked<'a, L: Library>(
     words: &'a [String],
     library: &mut L,
 ) -> Result<Found<'a>, Ending>
-    ensures fits { IfOk result (Fits (asked_of (texts words.entry.now)) (workers_of (texts words.entry.now))) }
-    ensures searched { (request : RequestTold) → asked_of (texts words.entry.now) ≡ Some request → (bytes : List ℕ) × Searched
+    ensures fits { let line = texts words.entry.now in
+        IfOk result (Fits (asked_of line) (workers_of line)) }
+    ensures searched { (request : RequestTold) → asked_of (texts words.entry.now) ≡ Some request →
+        (bytes : List ℕ) × Searched
         (λ files. request_ahead files request)
         (λ files found. settled (verdict_on_all found))
         (files_of (Some request) bytes)
@@ -357,7 +360,8 @@ pub fn find_asked<'a, L: Library>(
         (record { files = L.files library.old; faults = L.faults library.old })
         (record { files = L.files library.new; faults = L.faults library.new })
         result }
-    ensures unread { IsLarge (asked_of (texts words.entry.now)) → L.faults library.new ≡ L.faults library.old }
+    ensures unread { IsLarge (asked_of (texts words.entry.now)) →
+        L.faults library.new ≡ L.faults library.old }
 {
     match ask(alloc, words) {
         Ok(Some(asked)) => find_request(alloc, asked.request, asked.workers, library),

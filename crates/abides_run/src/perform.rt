@@ -19,7 +19,7 @@ use crate::send::{send, send_bundle, sent_status};
 use crate::sessions::session_study;
 use crate::simulate::simulate;
 use crate::status::Status;
-use branch_workers::{Keep, Setup};
+use branch_workers::Keep;
 use command_words::Task;
 use kernel_copy::Course;
 use outside::{Gate, Ledger, Sink, Steps};
@@ -48,13 +48,7 @@ fn run_study<R: Threads + Wait + Sync, O: Sink, G: Gate + Sync, D: Ledger + Send
         result }
 {
     let course = &simulation.study.course;
-    let setup = Setup {
-        stride: simulation.study.stride,
-        places: simulation.places,
-        keep: Keep::Frames,
-        workers: simulation.workers,
-    };
-    match simulate(rt, alloc, course, setup, gate, steps) {
+    match simulate(rt, alloc, simulation, Keep::Frames, gate, steps) {
         Ok(worked) => {
             let sent = send_bundle(alloc, course, &worked.outcomes, out);
             drop(worked);
@@ -83,13 +77,7 @@ fn table_study<R: Threads + Wait + Sync, O: Sink, G: Gate + Sync, D: Ledger + Se
         result }
 {
     let course = &simulation.study.course;
-    let setup = Setup {
-        stride: simulation.study.stride,
-        places: simulation.places,
-        keep: Keep::Entries,
-        workers: simulation.workers,
-    };
-    let worked = match simulate(rt, alloc, course, setup, gate, steps) {
+    let worked = match simulate(rt, alloc, simulation, Keep::Entries, gate, steps) {
         Ok(worked) => worked,
         Err(Memory) => return Status::Memory,
     };
@@ -123,14 +111,8 @@ fn tell_study<R: Threads + Wait + Sync, O: Sink, G: Gate + Sync, D: Ledger + Sen
         result }
 {
     let course = &simulation.study.course;
-    let setup = Setup {
-        stride: simulation.study.stride,
-        places: simulation.places,
-        keep: Keep::Tallied,
-        workers: simulation.workers,
-    };
     let before = steps.count();
-    let worked = match simulate(rt, alloc, course, setup, gate, steps) {
+    let worked = match simulate(rt, alloc, simulation, Keep::Tallied, gate, steps) {
         Ok(worked) => worked,
         Err(Memory) => return Status::Memory,
     };

@@ -23,7 +23,7 @@ use crate::found::Simulation;
 use crate::send::{ToSink, send, sent_status};
 use crate::simulate::simulate;
 use crate::status::Status;
-use branch_workers::{Keep, Setup};
+use branch_workers::Keep;
 use checkpoint_shelf::ClosedShelf;
 use command_words::Mark;
 use kernel_copy::laws::courses_stay_in_range;
@@ -214,25 +214,20 @@ pub fn simulate_kept<R: Threads + Wait + Sync, G: Gate + Sync, D: Ledger + Send>
     requires steps { steps.old ≤ 2 ^ 63 }
     ensures shelf { IfOk result (λ s. s.shelf.course ≡ simulation.now.study.course.value) }
     ensures lasts { IfOk result (λ s. s.lasts.items ≡ lasts_of simulation.now.study.course.value) }
-    ensures near { let study = study_told simulation.now.study in IfOk result (λ s. (t : TargetTold) →
-        steps_from s.shelf t ≤ steps_to study simulation.now.places t) }
-    ensures after { let study = study_told simulation.now.study in IfOk result (λ s.
-        IsAfterWork study.course study.stride simulation.now.places simulation.now.workers s.shelf) }
+    ensures near { let study = study_told simulation.now.study in let places = simulation.now.places in
+        IfOk result (λ s. (t : TargetTold) → steps_from s.shelf t ≤ steps_to study places t) }
+    ensures after { let study = study_told simulation.now.study in let by = simulation.now in
+        IfOk result (λ s. IsAfterWork study.course study.stride by.places by.workers s.shelf) }
     ensures few { study_events simulation.now.study.course.value < 2 ^ 52 }
-    ensures rose { OnOk result (steps.new ≡ steps.old + study_events simulation.now.study.course.value) }
+    ensures rose { let course = simulation.now.study.course.value in
+        OnOk result (steps.new ≡ steps.old + study_events course) }
     ensures least { steps.old ≤ steps.new }
     ensures most { steps.new ≤ steps.old + study_events simulation.now.study.course.value }
 {
     sure_states_are_held();
     rewinds_after_work();
     let course = &simulation.study.course;
-    let setup = Setup {
-        stride: simulation.study.stride,
-        places: simulation.places,
-        keep: Keep::Nothing,
-        workers: simulation.workers,
-    };
-    let Ok(worked) = simulate(rt, alloc, course, setup, gate, steps) else {
+    let Ok(worked) = simulate(rt, alloc, simulation, Keep::Nothing, gate, steps) else {
         return Err(Memory);
     };
     let Ok(lasts) = last_events(alloc, course, &worked.outcomes) else {
@@ -259,9 +254,11 @@ fn reach_and_write<R: Threads + Wait + Sync, O: Sink, G: Gate + Sync, D: Ledger 
     steps: &mut Steps<D>,
 ) -> Ending
     requires marks { AreMarks marks.now }
-    requires targets { aimed_at simulation.now.study.course.value.plan.branches marks.now ≡ Aimed.At targets.now }
+    requires targets { let course = simulation.now.study.course.value in
+        aimed_at course.plan.branches marks.now ≡ Aimed.At targets.now }
     requires steps { steps.old ≤ 2 ^ 63 }
-    ensures { let asked = task.Rewind marks.now simulation.now.places in (reads : ℕ) (probes : Probes) → Finished
+    ensures { let asked = task.Rewind marks.now simulation.now.places in
+        (reads : ℕ) (probes : Probes) → Finished
         (verdict_on_found asked None (study_told simulation.now.study))
         probes
         (arguments_of asked)
@@ -297,7 +294,8 @@ pub fn rewind_study<R: Threads + Wait + Sync, O: Sink, G: Gate + Sync, D: Ledger
 ) -> Ending
     requires marks { AreMarks marks.now }
     requires steps { steps.old ≤ 2 ^ 63 }
-    ensures { let asked = task.Rewind marks.now simulation.now.places in (reads : ℕ) (probes : Probes) → Finished
+    ensures { let asked = task.Rewind marks.now simulation.now.places in
+        (reads : ℕ) (probes : Probes) → Finished
         (verdict_on_found asked None (study_told simulation.now.study))
         probes
         (arguments_of asked)

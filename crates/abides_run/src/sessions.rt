@@ -68,13 +68,17 @@ fn reach_and_answer<R: Threads + Wait + Sync, O: Sink, G: Gate + Sync, D: Ledger
     gate: &G,
     steps: &mut Steps<D>,
 ) -> Ending
-    requires numbers { All (λ b. is_time b.stop ≡ false) simulation.now.study.course.value.plan.branches }
-    requires fit { All (FitsOpening simulation.now.study.course.value.opening) acts.now }
+    requires numbers { let course = simulation.now.study.course.value in
+        All (λ b. is_time b.stop ≡ false) course.plan.branches }
+    requires fit { let course = simulation.now.study.course.value in
+        All (FitsOpening course.opening) acts.now }
     requires few { length acts.now ≤ 64 }
-    requires stands { act_refused (first_session simulation.now.study.course.value) acts.now ≡ None }
+    requires stands { let course = simulation.now.study.course.value in
+        act_refused (first_session course) acts.now ≡ None }
     requires steps { steps.old ≤ 2 ^ 63 }
-    ensures { let study = study_told simulation.now.study in (reads : ℕ) → Finished
-        (verdict_on_past_act acts.now simulation.now.places study (past_act (first_session study.course) acts.now))
+    ensures { let study = study_told simulation.now.study in
+        let past = past_act (first_session study.course) acts.now in
+        (reads : ℕ) → Finished (verdict_on_past_act acts.now simulation.now.places study past)
         (record { meanings = map (λ p. meaning p) probes.old; titles = map (λ p. title p) probes.old })
         act_words
         (record { reads = reads; writes = O.faults out.old; taken = O.taken out.old; steps = steps.old })

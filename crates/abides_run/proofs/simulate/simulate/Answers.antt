@@ -11,12 +11,12 @@ both_ok (Err e) P Q S f p q = tt
 pub returns : goal.returns
 unfolding study_events
 returns g c =
-    let k = c.args.course.now.value in
+    let k = c.args.simulation.now.study.course.value in
     let done = c.work.ensures in
     record {
-      ran = IfOk-weaker c.work.result _ _ (λ w is. c.outcomes_are_a_run.ensures.run k c.args.setup.keep w.outcomes.items is) done.outcomes;
-      framed = λ keeps. IfOk-weaker c.work.result _ _ (λ w is. c.outcomes_are_a_run.ensures.framed k c.args.setup.keep w.outcomes.items keeps is) done.outcomes;
-      tallied = λ keeps. IfOk-weaker c.work.result _ _ (λ w is. c.outcomes_are_a_run.ensures.tallied k c.args.setup.keep w.outcomes.items keeps is) done.outcomes;
+      ran = IfOk-weaker c.work.result _ _ (λ w is. c.outcomes_are_a_run.ensures.run k c.args.keep w.outcomes.items is) done.outcomes;
+      framed = λ keeps. IfOk-weaker c.work.result _ _ (λ w is. c.outcomes_are_a_run.ensures.framed k c.args.keep w.outcomes.items keeps is) done.outcomes;
+      tallied = λ keeps. IfOk-weaker c.work.result _ _ (λ w is. c.outcomes_are_a_run.ensures.tallied k c.args.keep w.outcomes.items keeps is) done.outcomes;
       listed = λ keep. IfOk-weaker c.work.result _ _ (λ w is. c.outcomes_are_a_run.ensures.listed k w.outcomes.items (rw keep at is)) done.outcomes;
       shelf = both_ok c.work.result _ _ _ (λ w at once. record { plan = at.0; course = at.1; once = once }) done.shelf done.once;
       few = c.segments_have_few_events.ensures.all;
