@@ -90,7 +90,8 @@ most_reached s places acts = all_reached (surely_kept s.course s.stride places) 
 
 -- The steps of a session whose acts these are, exactly: each event of the study's segments once, those of each full run that an act
 -- tells values of, and those that lead to the other answers from the nearest of the states that are kept. Which of the states that
--- share a place stays there, the order of the workers' steps decides; where none share one, the number is one.
+-- share a place stays there, the order of the workers' steps decides; where none share one and none lies past the end of its
+-- segment's run, the number is one.
 pub record SessionRose (s : StudyTold) (places : ℕ) (acts : List Act) (old new : ℕ) : Type 0 where
   pub held : Key → Bool
   pub kept : MayBeKept s.course s.stride places held
